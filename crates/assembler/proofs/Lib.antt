@@ -1,0 +1,12 @@
+mod Keywording
+mod Slotting
+mod Reading
+mod Saying
+mod Writing
+mod Tails
+mod Counting
+mod Rows
+mod Faulting
+mod Programming
+mod Listings
+mod Assembling

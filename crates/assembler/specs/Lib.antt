@@ -1,0 +1,10 @@
+pub mod Keywords
+pub mod Grammar
+pub mod Faults
+pub mod Programs
+pub mod Writes
+pub mod Assembly
+pub mod Lines
+pub mod Texts
+pub mod Listing
+pub mod Lists

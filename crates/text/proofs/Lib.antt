@@ -1,0 +1,4 @@
+pub mod Cuts
+pub mod Joins
+pub mod Numbers
+pub mod Spelling

@@ -1,0 +1,3 @@
+pub mod Tables
+pub mod Encodings
+pub mod Operands
