@@ -34,7 +34,7 @@ use Rattle.assembler.specs.Grammar.{Names, NamesEach, Spells}
 use Rattle.assembler.specs.Programs.{SpellsEach, SpellsText}
 use Rattle.assembler.specs.Assembly.{newlines, WithinLimits}
 use Rattle.assembler.specs.Listing.{operandText, exactly, listedAs, tail, lineAs, listed, listing, wordsAt}
-use Rattle.assembler.specs.Lists.{operandTexts, instructionLine, wordLine, LineOf, LineOfEach, ended, Listable, Listed}
+use Rattle.assembler.specs.Lists.{operandTexts, instructionLine, wordLine, LineOf, OneLine, LineOfEach, ended, Listable, Listed}
 use Rattle.assembler.specs.Writes.{Appended}
 use Rattle.assembler.proofs.Keywording.{Passes, each-keyword}
 use Rattle.assembler.proofs.Saying.{spells}
@@ -185,6 +185,18 @@ line-of w h = line-at w (listedAs w) h (exact w)
 
 short-line : (w : ℕ) → length (listed w) < 19
 short-line w = omega (arith, line-short (listedAs w) w, length-append (spelling (listedAs w)) (tail (slots (listedAs w)) w))
+
+same-instruction : (i j : Instruction) (w : ℕ) → encoded i ≡ w → encoded j ≡ w → i ≡ j
+same-instruction i j w e f = let both : Some i ≡ Some j = sym (decodes i) ∙ ap decoded (e ∙ sym f) ∙ decodes j in cc
+
+line-one : (w : ℕ) (l m : List ℕ) → LineOf w l → LineOf w m → l ≡ m
+line-one w l m (inl (i, e, is)) (inl (j, f, same)) = is ∙ ap instructionLine (same-instruction i j w e f) ∙ sym same
+line-one w l m (inl (i, e, is)) (inr (none, same)) = absurd (none i e)
+line-one w l m (inr (none, is)) (inl (j, f, same)) = absurd (none j f)
+line-one w l m (inr (none, is)) (inr (nope, same)) = is ∙ sym same
+
+pub one-line : (w : ℕ) → w < 2 ^ 32 → OneLine w
+one-line w h = record { line = listed w; of = line-of w h; only = λ other o. line-one w other (listed w) o (line-of w h); spells = reads-back w h; short = short-line w }
 
 -- whole listings
 

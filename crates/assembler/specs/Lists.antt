@@ -15,6 +15,7 @@ use Rattle.u5.specs.Operations.{spelling, slots}
 use Rattle.u5.specs.Words.{operation, values, encoded}
 use Rattle.assembler.specs.declared.lister.ListRefusal.{ListRefusal}
 use Rattle.assembler.specs.declared.lister.ListRefusal.the-variants.{TooLong, Partial, Room}
+use Rattle.assembler.specs.Grammar.{Spells}
 use Rattle.assembler.specs.Listing.{operandText, wordsAt}
 use Rattle.assembler.specs.Writes.{Appended}
 
@@ -41,6 +42,14 @@ abbrev pub LineOf : ℕ → List ℕ → Type 0
 LineOf w line =
     ((i : Instruction) × (encoded i ≡ w) × (line ≡ instructionLine i))
     ⊎ (((i : Instruction) → encoded i ≡ w → ⊥) × (line ≡ wordLine w))
+
+-- the one line of a word: it spells the word
+pub record OneLine (w : ℕ) : Type 0 where
+  pub line : List ℕ
+  pub of : LineOf w line
+  pub only : (other : List ℕ) → LineOf w other → other ≡ line
+  pub spells : Spells line w
+  pub short : length line < 19
 
 -- as many lines as words, each of its word, and with its newline at most 19 bytes long
 abbrev pub LineOfEach : List ℕ → List (List ℕ) → Type 0

@@ -9,6 +9,7 @@ ghost use Rattle.std.specs.Vec.{made};
 ghost use Rattle.std.specs.declared.result.Result.the-variants.{Ok};
 ghost use Rattle.text.specs.Pieces.{pieces};
 ghost use Rattle.assembler.specs.Assembly.{newlines, WithinLimits, Assembles, assembleRefusalNumber};
+ghost use Rattle.assembler.specs.Grammar.{Spells};
 ghost use Rattle.assembler.specs.Programs.{SpellsText};
 ghost use Rattle.assembler.specs.Texts.{wordsFrom, counted, wordsOf, bytes};
 ghost use Rattle.assembler.specs.Writes.{Appended};
@@ -30,7 +31,7 @@ pub enum AssembleRefusal {
 }
 
 impl AssembleRefusal {
-    pub fn number(self) -> u32
+    pub fn number(self) -> u8
         ensures { λ r. ⌜ r ≡ assembleRefusalNumber self ⌝ }
     {
         match self {
@@ -89,6 +90,15 @@ fn write_words(text: &[u8], out: &mut [u8]) -> usize
 
 // Assembles `text` into `out`, and says how many bytes were written.
 pub fn assemble(text: &[u8], out: &mut [u8]) -> Result<usize, AssembleRefusal>
+    ensures assembles { λ r. ⌜ Assembles (now (text .entry)) (now (out .entry)) r (now (out .exit)) ⌝ }
+    ensures bound { λ r. ⌜ made r (λ n. n ≤ length (now (out .exit))) ⌝ }
+    ensures accepts { λ r. ⌜ ((ws : List ℕ) → WithinLimits (now (text .entry)) → SpellsText (now (text .entry)) ws → 4 * length ws ≤ length (now (out .entry)) → r ≡ Ok (4 * length ws)) ⌝ }
+    ensures one { λ _. ⌜ ((line : List ℕ) (v w : ℕ) → Spells line v → Spells line w → v ≡ w) ⌝ }
+{
+    assemble_text(text, out)
+}
+
+fn assemble_text(text: &[u8], out: &mut [u8]) -> Result<usize, AssembleRefusal>
     ensures assembles { λ r. ⌜ Assembles (now (text .entry)) (now (out .entry)) r (now (out .exit)) ⌝ }
     ensures bound { λ r. ⌜ made r (λ n. n ≤ length (now (out .exit))) ⌝ }
     ensures accepts { λ r. ⌜ ((ws : List ℕ) → WithinLimits (now (text .entry)) → SpellsText (now (text .entry)) ws → 4 * length ws ≤ length (now (out .entry)) → r ≡ Ok (4 * length ws)) ⌝ }

@@ -1,11 +1,11 @@
 // From words to their text.
 ghost use mathlib.Core.Path.{_≡_};
-ghost use Prim.Native.Nat.{_*_, _/_, _≤_};
+ghost use Prim.Native.Nat.{ℕ, _*_, _/_, _^_, _≤_, _<_};
 ghost use lib.ListN.{length, take};
 ghost use Rattle.std.specs.Vec.{made};
 ghost use Rattle.assembler.specs.Assembly.{WithinLimits};
 ghost use Rattle.assembler.specs.Listing.{wordsAt, listing};
-ghost use Rattle.assembler.specs.Lists.{Lists, listRefusalNumber};
+ghost use Rattle.assembler.specs.Lists.{Lists, OneLine, listRefusalNumber};
 ghost use Rattle.assembler.specs.Programs.{SpellsText};
 ghost use Rattle.assembler.specs.Writes.{Appended};
 use crate::listing::list_word;
@@ -22,7 +22,7 @@ pub enum ListRefusal {
 }
 
 impl ListRefusal {
-    pub fn number(self) -> u32
+    pub fn number(self) -> u8
         ensures { λ r. ⌜ r ≡ listRefusalNumber self ⌝ }
     {
         match self {
@@ -48,6 +48,16 @@ fn write_lines(words: &[u8], out: &mut [u8]) -> usize
 
 // Lists `words`, four bytes each, into `out`, and says how many bytes were written: a line a word, which assembles to the word.
 pub fn list(words: &[u8], out: &mut [u8]) -> Result<usize, ListRefusal>
+    ensures lists { λ r. ⌜ Lists (now (words .entry)) (now (out .entry)) r (now (out .exit)) ⌝ }
+    ensures bound { λ r. ⌜ made r (λ n. n ≤ length (now (out .exit))) ⌝ }
+    ensures reads_back { λ r. ⌜ made r (λ n. SpellsText (take n (now (out .exit))) (wordsAt (now (words .entry)))) ⌝ }
+    ensures assembles { λ r. ⌜ made r (λ n. WithinLimits (take n (now (out .exit)))) ⌝ }
+    ensures every { λ _. ⌜ ((w : ℕ) → w < 2 ^ 32 → OneLine w) ⌝ }
+{
+    list_words(words, out)
+}
+
+fn list_words(words: &[u8], out: &mut [u8]) -> Result<usize, ListRefusal>
     ensures lists { λ r. ⌜ Lists (now (words .entry)) (now (out .entry)) r (now (out .exit)) ⌝ }
     ensures bound { λ r. ⌜ made r (λ n. n ≤ length (now (out .exit))) ⌝ }
     ensures reads_back { λ r. ⌜ made r (λ n. SpellsText (take n (now (out .exit))) (wordsAt (now (words .entry)))) ⌝ }
