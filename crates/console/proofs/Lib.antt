@@ -1,0 +1,3 @@
+-- Lemmas on what a console holds.
+pub mod Sheets
+pub mod Rings

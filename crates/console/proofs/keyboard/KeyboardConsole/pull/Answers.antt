@@ -1,0 +1,9 @@
+-- The first byte of the ring is gone, and its paper place is free.
+use native.Mathlib.Omega.{arith}
+use Rattle.console.proofs.Rings.{first-removed, ring-pulled}
+use Rattle.console.proofs.keyboard.KeyboardConsole.pull.Needs as need
+
+pub returns : need.returns
+returns c =
+    let ring = c .args .self .now .printed in
+    ring-pulled _ _ _ (c .remove .result) (omega (arith, ring .ok .0)) (first-removed ring (c .remove .last .self) (c .remove .result) (c .remove .ensures .cases))

@@ -1,0 +1,4 @@
+-- What the consoles mean.
+pub mod Consoles
+pub mod Queues
+pub mod Kinds

@@ -1,0 +1,2 @@
+-- Lemmas on consoles of any kind.
+pub mod Pulls

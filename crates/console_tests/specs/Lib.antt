@@ -1,0 +1,2 @@
+-- What the functions over any console promise.
+pub mod Draining

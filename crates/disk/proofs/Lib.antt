@@ -1,0 +1,2 @@
+-- Lemmas on images.
+pub mod Rewriting

@@ -1,0 +1,2 @@
+-- What the functions over any disk promise.
+pub mod Using

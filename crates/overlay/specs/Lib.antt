@@ -1,0 +1,4 @@
+-- What an overlay means.
+pub mod Entries
+pub mod Layers
+pub mod WholeLayers

@@ -1,0 +1,3 @@
+// Tests of the overlay, by functions over any disks.
+#[cfg(test)]
+mod overlays;
