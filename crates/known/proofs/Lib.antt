@@ -1,0 +1,2 @@
+mod Inexact
+mod Executing

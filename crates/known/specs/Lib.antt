@@ -1,0 +1,2 @@
+-- The table of known values.
+pub mod Table
