@@ -47,7 +47,7 @@ fn ends_and_lines() -> [Case; 12] {
     ]
 }
 
-fn spelling_by_position() -> [Case; 8] {
+fn spelling_by_position() -> [Case; 11] {
     [
         expected("no register as A", b"ADD\tr64\tr1\tr2\n", "8 1 2 SPELLING"),
         expected("no register as B", b"ADD\tr1\tR1\tr2\n", "8 1 3 SPELLING"),
@@ -68,11 +68,26 @@ fn spelling_by_position() -> [Case; 8] {
             "8 1 1 SPELLING",
         ),
         expected("no register as R", b"MOVI\tr\t1\t1\n", "8 1 2 SPELLING"),
+        expected(
+            "no register as the only operand",
+            b"OUT\tr64\n",
+            "8 1 2 SPELLING",
+        ),
+        expected(
+            "no register as A of two",
+            b"READ\tr64\tr1\n",
+            "8 1 2 SPELLING",
+        ),
+        expected(
+            "no register as B of two",
+            b"WRITE\tr1\tr64\n",
+            "8 1 3 SPELLING",
+        ),
         expected("a register with a blank", b"OUT\tr1 \n", "8 1 2 SPELLING"),
     ]
 }
 
-fn missing_and_extra() -> [Case; 13] {
+fn missing_and_extra() -> [Case; 17] {
     [
         expected("no A", b"ADD\n", "8 1 2 MISSING"),
         expected("no B", b"ADD\tr1\n", "8 1 3 MISSING"),
@@ -90,6 +105,10 @@ fn missing_and_extra() -> [Case; 13] {
             b"READ\tr1\tr2\tr3\n",
             "8 1 4 EXTRA",
         ),
+        expected("no R", b"MOVI\n", "8 1 2 MISSING"),
+        expected("no A of one register", b"IN\n", "8 1 2 MISSING"),
+        expected("no B of two registers", b"READ\tr1\n", "8 1 3 MISSING"),
+        expected("a field after one register", b"IN\tr1\tr2\n", "8 1 3 EXTRA"),
         expected("no I", b"MOVI\tr1\n", "8 1 3 MISSING"),
         expected("no S", b"MOVI\tr1\t1\n", "8 1 4 MISSING"),
         expected("a field after S", b"MOVI\tr1\t1\t1\t1\n", "8 1 5 EXTRA"),
