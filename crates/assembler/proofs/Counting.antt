@@ -4,20 +4,17 @@ use mathlib.Core.Bool.{Bool, true, false, cond}
 use mathlib.Core.List.{List, [], _∷_, _++_, append-assoc, append-nil}
 use Prim.Native.Nat.{ℕ, suc, _+_, _*_, _/_, _%_, _^_, _≤_, _<_}
 use native.Mathlib.Omega.{arith}
-use denote.Ref.{RefT, now}
 use lib.Dec.{eqb}
 use lib.ListN.{length, length-append}
 use Rattle.std.specs.Results.{isOk}
 use Rattle.std.proofs.shelf.Tests.{cond-false, ne-eqb}
-use Rattle.std.specs.declared.option.Option.{Option}
-use Rattle.std.specs.declared.option.Option.the-variants.{Some}
 use Rattle.std.specs.declared.result.Result.{Result}
 use Rattle.std.specs.declared.result.Result.the-variants.{Ok, Err}
 use Rattle.text.specs.declared.fault.Cause.the-variants.{End}
 use Rattle.text.specs.declared.fault.FieldFault.{FieldFault}
 use Rattle.text.specs.declared.fault.Fault.{Fault}
 use Rattle.text.specs.Faults.{atField, atLine, onLine}
-use Rattle.text.specs.Readers.{Advances}
+use Rattle.text.proofs.Placing.{onLine-ok}
 use Rattle.assembler.specs.Lines.{lineWord}
 use Rattle.assembler.specs.Texts.{onward, withLine, wordsFrom, counted, wordsOf, bytes}
 use Rattle.assembler.specs.Writes.{Appended}
@@ -117,22 +114,6 @@ pub counted-ok : (r : Result (List ℕ) Fault) (n : ℕ) → Ok n ≡ counted r 
 counted-ok (Ok ws) n e = (refl, (cc), refl)
 counted-ok (Err fault) n e = absurd (let z : _≡_ {A = ℕ} 0 1 = cc in omega arith)
 
--- the line that was handed out
-pub handed : (before after : List (List ℕ)) (o : Option (RefT (List ℕ))) (line : RefT (List ℕ)) → Advances before (Ok o) after → o ≡ Some line → before ≡ now line ∷ after
-handed before after o line adv is = subst (λ x. Advances before (Ok x) after) is adv
-
--- what `on_line` hands on
-
-onLine-ok : {X : Type 0} (r : Result X FieldFault) (i : ℕ) (x : X) → onLine r i ≡ Ok x → r ≡ Ok x
-onLine-ok (Ok y) i x e = let is : y ≡ x = cc in ap Ok is
-onLine-ok (Err f) i x e = absurd (let z : _≡_ {A = ℕ} 0 1 = cc in omega arith)
-
+-- a line that was read with its number
 pub read-on-line : (r : Result ℕ FieldFault) (i w : ℕ) (p : List ℕ) → r ≡ lineWord p → onLine r i ≡ Ok w → Ok w ≡ lineWord p
 read-on-line r i w p is e = sym (onLine-ok r i w e) ∙ is
-
-pub fault-on-line : {X : Type 0} (r : Result X FieldFault) (i : ℕ) (fault : Fault) → onLine r i ≡ Err fault → (f : FieldFault) × (r ≡ Err f) × (atLine i f ≡ fault)
-fault-on-line (Ok y) i fault e = absurd (let z : _≡_ {A = ℕ} 0 1 = cc in omega arith)
-fault-on-line (Err f) i fault e = let is : atLine i f ≡ fault = cc in (f, refl, is)
-
-pub handed-on-line : (before : List (List ℕ)) (r : Result (Option (RefT (List ℕ))) FieldFault) (after : List (List ℕ)) (i : ℕ) (o : Option (RefT (List ℕ))) (line : RefT (List ℕ)) → Advances before r after → onLine r i ≡ Ok o → o ≡ Some line → before ≡ now line ∷ after
-handed-on-line before r after i o line adv e is = handed before after o line (subst (λ x. Advances before x after) (onLine-ok r i o e) adv) is

@@ -17,6 +17,7 @@ use Rattle.text.specs.declared.fault.FieldFault.{FieldFault}
 use Rattle.text.specs.declared.fault.Fault.{Fault}
 use Rattle.text.specs.Faults.{atField, atLine, onLine}
 use Rattle.text.specs.Readers.{Advances}
+use Rattle.text.proofs.Placing.{onLine-ok, fault-on-line}
 use Rattle.processor.specs.declared.ending.Ending.{Ending}
 use Rattle.processor.specs.Machine.{Processor}
 use Rattle.sheet.specs.declared.mark.Mark.{Mark}
@@ -80,20 +81,7 @@ module _ (p : Processor) (ss : List (List ℕ)) (e : Ending) where
         c .carry (Err (atLine (count + 1) (atField 0 End)))
         (ap (marksFrom (count + 1)) cut ∙ cond-false (eqb (length last) 0) _ _ (ne-eqb (length last) 0 (λ z. omega arith)))
 
--- what `on_line` hands on
-
-pub onLine-ok : {X : Type 0} (r : Result X FieldFault) (i : ℕ) (x : X) → onLine r i ≡ Ok x → r ≡ Ok x
-onLine-ok (Ok y) i x e = let is : y ≡ x = cc in ap Ok is
-onLine-ok (Err f) i x e = absurd (let z : _≡_ {A = ℕ} 0 1 = cc in omega arith)
-
-pub fault-on-line : {X : Type 0} (r : Result X FieldFault) (i : ℕ) (fault : Fault) → onLine r i ≡ Err fault → (f : FieldFault) × (r ≡ Err f) × (atLine i f ≡ fault)
-fault-on-line (Ok y) i fault e = absurd (let z : _≡_ {A = ℕ} 0 1 = cc in omega arith)
-fault-on-line (Err f) i fault e = let is : atLine i f ≡ fault = cc in (f, refl, is)
-
--- what a reader of lines handed out, of which the answer is known
-pub handed : (before after : List (List ℕ)) (r : Result (Option (RefT (List ℕ))) FieldFault) (i : ℕ) (o : Option (RefT (List ℕ))) (line : RefT (List ℕ)) → Advances before r after → onLine r i ≡ Ok o → o ≡ Some line → before ≡ now line ∷ after
-handed before after r i o line adv e is = subst (λ x. Advances before (Ok x) after) is (subst (λ x. Advances before x after) (onLine-ok r i o e) adv)
-
+-- a reader of lines that came to the text's end
 pub at-the-end : (before after : List (List ℕ)) (r : Result (Option (RefT (List ℕ))) FieldFault) (i : ℕ) (o : Option (RefT (List ℕ))) → Advances before r after → onLine r i ≡ Ok o → o ≡ None → before ≡ [] ∷ []
 at-the-end before after r i o adv e is = subst (λ x. Advances before (Ok x) after) is (subst (λ x. Advances before x after) (onLine-ok r i o e) adv) .0
 

@@ -8,8 +8,9 @@ use Rattle.std.proofs.shelf.Results.{err-from-errBy}
 use Rattle.std.specs.declared.result.Result.the-variants.{Err}
 use Rattle.text.specs.Readers.{linesLeft}
 use Rattle.text.proofs.Joins.{some-pieces, few-pieces}
+use Rattle.text.proofs.Placing.{fault-on-line, handed-on-line}
 use Rattle.assembler.specs.Texts.{wordsFrom, counted}
-use Rattle.assembler.proofs.Counting.{none-counted, one-line, bad-line, read-on-line, fault-on-line, handed-on-line}
+use Rattle.assembler.proofs.Counting.{none-counted, one-line, bad-line, read-on-line}
 use Rattle.assembler.proofs.assembler.count_words.Needs as need
 use Rattle.assembler.proofs.assembler.count_words.Needs.{In-Some}
 
@@ -20,7 +21,7 @@ loop-line-holds c =
 
 -- the line that was handed out
 handed : (c : In-Some) → linesLeft (c .loop-line .lines) ≡ now (c .in-Some .line) ∷ linesLeft (c .line .last .self)
-handed c = handed-on-line (linesLeft (c .loop-line .lines)) (c .line .result) (linesLeft (c .line .last .self)) (c .loop-line .count + 1) (c .in-Continue-line .field-0) (c .in-Some .line) (c .line .ensures) (sym (c .on-line .ensures) ∙ c .in-Continue-line .was tt) (c .in-Some .is)
+handed c = handed-on-line (linesLeft (c .loop-line .lines)) (linesLeft (c .line .last .self)) (c .line .result) (c .loop-line .count + 1) (c .in-Continue-line .field-0) (c .in-Some .line) (c .line .ensures) (sym (c .on-line .ensures) ∙ c .in-Continue-line .was tt) (c .in-Some .is)
 
 pub returns-in-Break-on-line : need.returns-in-Break-on-line
 returns-in-Break-on-line c =

@@ -7,7 +7,8 @@ use lib.ListN.{length, drop}
 use Rattle.text.specs.Readers.{linesLeft}
 use Rattle.text.proofs.Joins.{some-pieces}
 use Rattle.assembler.specs.Writes.{Appended}
-use Rattle.assembler.proofs.Counting.{handed, word-room, word-more, no-fault, four}
+use Rattle.text.proofs.Placing.{handed}
+use Rattle.assembler.proofs.Counting.{word-room, word-more, no-fault, four}
 use Rattle.assembler.proofs.assembler.write_words.Needs as need
 use Rattle.assembler.proofs.assembler.write_words.Needs.{In-Some}
 

@@ -15,7 +15,8 @@ use Rattle.processor.specs.Requests.{processor}
 use Rattle.sheet.specs.Lines.{lineMark, marksFrom}
 use Rattle.sheet.specs.Marks.{points-of}
 use Rattle.sheet.specs.Sheets.{Score}
-use Rattle.sheet.proofs.Scoring.{carries-first, carries-more, carries-all, bad-line, unended, unended-line, onLine-ok, fault-on-line, handed, at-the-end}
+use Rattle.sheet.proofs.Scoring.{carries-first, carries-more, carries-all, bad-line, unended, unended-line, at-the-end}
+use Rattle.text.proofs.Placing.{onLine-ok, fault-on-line, handed-on-line}
 use Rattle.sheet.proofs.sheet.earn.Given.{Over}
 use Rattle.sheet.proofs.sheet.earn.Needs as need
 use Rattle.sheet.proofs.sheet.earn.Needs.{In-Some}
@@ -27,7 +28,7 @@ loop-line-holds g c =
 
 -- the line that was handed out, and that something follows it
 cut : (g : Over) (c : In-Some g) → linesLeft (c .loop-line .lines) ≡ now (c .in-Some .line) ∷ linesLeft (c .line .last .self)
-cut g c = handed (linesLeft (c .loop-line .lines)) (linesLeft (c .line .last .self)) (c .line .result) (c .loop-line .count + 1) (c .in-Continue-line .field-0) (c .in-Some .line) (c .line .ensures) (sym (c .on-line .ensures) ∙ c .in-Continue-line .was tt) (c .in-Some .is)
+cut g c = handed-on-line (linesLeft (c .loop-line .lines)) (linesLeft (c .line .last .self)) (c .line .result) (c .loop-line .count + 1) (c .in-Continue-line .field-0) (c .in-Some .line) (c .line .ensures) (sym (c .on-line .ensures) ∙ c .in-Continue-line .was tt) (c .in-Some .is)
 
 more : (g : Over) (c : In-Some g) → 0 < length (linesLeft (c .line .last .self))
 more g c = some-pieces 10 (drop (c .line .last .self .at) (now (c .line .last .self .text)))
