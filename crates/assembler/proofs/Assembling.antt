@@ -1,5 +1,5 @@
 -- What assemble promises at each of its answers.
-use Rattle.std.proofs.Common.{◌≡◌, ℕ, ◌*◌, ◌/◌, ◌<◌, ◌≤◌, true, List, length, is_ok, Ok, Err, Result, sym, refl, ap, ◌∙◌, subst, arith}
+use Rattle.std.proofs.Common.{◌≡◌, ℕ, ◌*◌, ◌/◌, ◌<◌, true, List, length, is_ok, Ok, Err, Result, ap, ◌∙◌, arith}
 use Rattle.text.specs.declared.fault.Fault.{Fault}
 use Rattle.text.specs.Pieces.{pieces}
 use Rattle.assembler.specs.Assembly.{WithinLimits, Assembled, Crowded}

@@ -1,5 +1,5 @@
 -- What is reported of a line is its first wrong field, and such a line is reported so.
-use Rattle.std.proofs.Common.{◌≡◌, ℕ, suc, ◌+◌, ◌*◌, ◌^◌, ◌<◌, ◌≤◌, Bool, true, false, cond, ◌&&◌, eqb, ltb, leb, ◌⊎◌, List, [], ◌∷◌, ◌++◌, length, get_or, drop, Some, None, Ok, Err, Option, Result, sym, refl, ap, ◌∙◌, subst, inl, inr, ⊎_elim, arith, MatchResult}
+use Rattle.std.proofs.Common.{◌≡◌, ℕ, suc, ◌+◌, ◌*◌, ◌^◌, ◌<◌, true, ◌&&◌, eqb, ltb, leb, List, [], ◌∷◌, ◌++◌, length, get_or, drop, Some, None, Ok, Err, Option, Result, sym, refl, ap, ◌∙◌, subst, inl, inr, ⊎_elim, arith, MatchResult}
 use Rattle.std.proofs.lemmas.Bool.{and_parts, cases_Bool, cond-true, cond-false, ltb-true, lt-leb}
 use Rattle.text.specs.declared.fault.Cause.{Cause}
 use Rattle.text.specs.declared.fault.Cause.TheVariants.{Spelling, Digits, Size, Missing, Extra, End}
@@ -16,7 +16,7 @@ use Rattle.u5.specs.Operations.{largest}
 use Rattle.u5.specs.Registers.{aliased}
 use Rattle.u5.specs.Slots.{placed}
 use Rattle.assembler.specs.declared.keyword.Keyword.{Keyword}
-use Rattle.assembler.specs.Keywords.{spelling, base, slots, keyword_of}
+use Rattle.assembler.specs.Keywords.{base, slots, keyword_of}
 use Rattle.assembler.specs.Grammar.{Names, NamesEach, Spells}
 use Rattle.assembler.specs.Faults.{Wrong, WrongHere, FirstWrong, FaultyFields, FaultyLine}
 use Rattle.assembler.specs.Lines.{numbered, unless_alias, register_of, read_as, and_then, operands, from_keyword, from_fields, line_word}

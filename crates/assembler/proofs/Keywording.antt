@@ -1,14 +1,14 @@
 -- The keywords as a table: what is found there, and tests of the whole of it.
-use Rattle.std.proofs.Common.{◌≡◌, ℕ, Bool, true, false, cond, not, ◌&&◌, List, [], ◌∷◌, Some, None, Ok, Err, codes, Option, Result, sym, refl, ap, ◌∙◌, subst, ⊎_elim, arith}
+use Rattle.std.proofs.Common.{◌≡◌, ℕ, Bool, true, false, not, List, Some, None, Ok, Err, codes, Option, Result, sym, refl, ap, ◌∙◌, ⊎_elim, arith}
 use Rattle.std.specs.Str.{bytes_eq}
 use Rattle.std.proofs.lemmas.Slice.Eq.{bytes_eq-Decides}
-use Rattle.std.proofs.lemmas.Bool.{and_parts, cases_Bool, cond-true, cond-false, not_true}
+use Rattle.std.proofs.lemmas.Bool.{cases_Bool, cond-true, cond-false, not-true}
 use Rattle.text.specs.declared.fault.Cause.{Cause}
 use Rattle.text.specs.declared.fault.Cause.TheVariants.{Spelling}
 use Rattle.u5.specs.declared.operation.Operation.{Operation}
 use Rattle.u5.specs.Operations.{named, every}
 use Rattle.u5.specs.Operations as operations
-use Rattle.u5.proofs.Tables.{all, each_operation, named_spelling, named_is, none_named}
+use Rattle.u5.proofs.Tables.{each_operation, named_spelling, named_is}
 use Rattle.assembler.specs.declared.keyword.Keyword.{Keyword}
 use Rattle.assembler.specs.declared.keyword.Keyword.TheVariants.{Of, Word}
 use Rattle.assembler.specs.Keywords.{spelling, operation_of, keyword_of}
@@ -28,7 +28,7 @@ each_keyword test p Word = p.word
 
 not_word : (o : Operation) → bytes_eq (operations.spelling o) (codes "WORD") ≡ false
 unfolding every
-not_word o = not_true (bytes_eq (operations.spelling o) (codes "WORD")) (each_operation (λ p. not (bytes_eq (operations.spelling p) (codes "WORD"))) refl refl o)
+not_word o = not-true (bytes_eq (operations.spelling o) (codes "WORD")) (each_operation (λ p. not (bytes_eq (operations.spelling p) (codes "WORD"))) refl refl o)
 
 pub keyword_spelling : (k : Keyword) → keyword_of (spelling k) ≡ Ok k
 keyword_spelling (Of o) = cond-false (bytes_eq (operations.spelling o) (codes "WORD")) (Ok Word) (operation_of (named (operations.spelling o))) (not_word o) ∙ ap operation_of (named_spelling o)

@@ -1,9 +1,9 @@
 -- The line of a word spells the word, and a whole listing spells its words within assemble's limits.
-use Rattle.std.proofs.Common.{◌≡◌, ℕ, zero, suc, ◌+◌, ◌-◌, ◌*◌, ◌/◌, ◌%◌, ◌^◌, ◌<◌, ◌≤◌, Bool, true, false, cond, not, ◌&&◌, eqb, ltb, ◌⊎◌, List, [], ◌∷◌, ◌++◌, map, length, get_or, take, Some, None, codes, Option, sym, refl, ap, ◌∙◌, subst, inl, inr, ⊎_elim, append-nil, arith, length-append}
+use Rattle.std.proofs.Common.{◌≡◌, ℕ, zero, suc, ◌+◌, ◌-◌, ◌*◌, ◌/◌, ◌%◌, ◌^◌, ◌<◌, ◌≤◌, Bool, true, false, not, ◌&&◌, eqb, ltb, ◌⊎◌, List, [], ◌∷◌, ◌++◌, map, length, get_or, take, Some, None, codes, Option, sym, refl, ap, ◌∙◌, subst, inl, inr, ⊎_elim, append-nil, arith, length-append}
 use Rattle.std.specs.List.{AllByRecursion}
 use Rattle.std.proofs.lemmas.Nat.{mod_below}
-use Rattle.std.proofs.lemmas.Bool.{and_parts, and_from, cases_Bool, eqb-true, eqb-false, eq-eqb, ne_eqb, cond-true, cond-false, cond_both, not_true, not_from_false}
-use Rattle.text.specs.Numerals.{digits_by, spelled, Spelled}
+use Rattle.std.proofs.lemmas.Bool.{and_parts, and_from, cases_Bool, eqb-true, eqb-false, eq-eqb, ne_eqb, cond-true, cond-false, cond_both, not-true}
+use Rattle.text.specs.Numerals.{digits_by, spelled}
 use Rattle.text.specs.Pieces.{pieces}
 use Rattle.u5.specs.declared.instruction.Instruction.{Instruction}
 use Rattle.u5.specs.declared.operation.Kind.{Kind}
@@ -11,7 +11,7 @@ use Rattle.u5.specs.declared.operation.Kind.TheVariants.{Register, Number}
 use Rattle.u5.specs.declared.operation.Slot.{Slot}
 use Rattle.u5.specs.Operations.{largest, every}
 use Rattle.u5.specs.Operations as operations
-use Rattle.u5.specs.Registers.{alias, aliases}
+use Rattle.u5.specs.Registers.{aliases}
 use Rattle.u5.specs.Slots.{placed, part, parts}
 use Rattle.u5.specs.Words.{operation, values, encoded, decoded, bare}
 use Rattle.u5.proofs.Encodings.{decodes}
@@ -24,7 +24,7 @@ use Rattle.assembler.specs.Grammar.{Names, NamesEach, Spells}
 use Rattle.assembler.specs.Programs.{SpellsEach, SpellsText}
 use Rattle.assembler.specs.Assembly.{newlines, WithinLimits}
 use Rattle.assembler.specs.Listing.{operand_text, exactly, listed_as, tail, line_as, listed, listing, words_at}
-use Rattle.assembler.specs.Lists.{operand_texts, instruction_line, word_line, LineOf, OneLine, LineOfEach, ended, Listable, Listed}
+use Rattle.assembler.specs.Lists.{operand_texts, instruction_line, LineOf, OneLine, LineOfEach, ended, Listed}
 use Rattle.assembler.specs.Writes.{Appended}
 use Rattle.assembler.proofs.Keywording.{Passes, each_keyword}
 use Rattle.assembler.proofs.Saying.{spells}
@@ -46,14 +46,14 @@ cut_here : (m : ℕ) (xs ys : List ℕ) → free m xs ≡ true → pieces m (xs 
 cut_here m [] ys h = let yes = eq-eqb m m refl in rw yes
 cut_here m (c ∷ xs) ys h =
     let p = and_parts (not (eqb c m)) (free m xs) h in
-    let no = not_true (eqb c m) p.0 in
+    let no = not-true (eqb c m) p.0 in
     rw (no, cut_here m xs ys p.1)
 
 cut_last : (m : ℕ) (xs : List ℕ) → free m xs ≡ true → pieces m xs ≡ xs ∷ []
 cut_last m [] h = refl
 cut_last m (c ∷ xs) h =
     let p = and_parts (not (eqb c m)) (free m xs) h in
-    let no = not_true (eqb c m) p.0 in
+    let no = not-true (eqb c m) p.0 in
     rw (no, cut_last m xs p.1)
 
 -- digits, aliases and spellings have no mark below the digits in them
@@ -220,7 +220,7 @@ newlines_line : (xs ys : List ℕ) → free 10 xs ≡ true → newlines (xs ++ (
 newlines_line [] ys h = refl
 newlines_line (c ∷ xs) ys h =
     let p = and_parts (not (eqb c 10)) (free 10 xs) h in
-    let no = not_true (eqb c 10) p.0 in
+    let no = not-true (eqb c 10) p.0 in
     rw no (newlines_line xs ys p.1)
 
 newlines_listing : (ws : List ℕ) → newlines (listing ws) ≡ length ws

@@ -1,5 +1,5 @@
 -- What is read of a text is what it spells, or its first fault.
-use Rattle.std.proofs.Common.{◌≡◌, ℕ, suc, ◌+◌, ◌*◌, ◌<◌, ◌≤◌, Bool, true, false, cond, eqb, ◌⊎◌, List, [], ◌∷◌, ◌++◌, length, Ok, Err, Result, sym, refl, ap, ◌∙◌, subst, inl, inr, ⊎_elim, arith, MatchResult}
+use Rattle.std.proofs.Common.{◌≡◌, ℕ, suc, ◌+◌, ◌<◌, eqb, List, [], ◌∷◌, ◌++◌, length, Ok, Err, Result, sym, refl, ap, ◌∙◌, subst, ⊎_elim, arith, MatchResult}
 use Rattle.std.proofs.lemmas.Bool.{cases_Bool, cond-true, cond-false, eqb-true, eqb-false}
 use Rattle.text.specs.declared.fault.Cause.TheVariants.{End}
 use Rattle.text.specs.declared.fault.FieldFault.{FieldFault}
@@ -11,7 +11,7 @@ use Rattle.assembler.specs.Grammar.{Spells}
 use Rattle.assembler.specs.Faults.{FaultyLine}
 use Rattle.assembler.specs.Lines.{line_word}
 use Rattle.assembler.specs.Programs.{SpellsEach, SpellsText, WrongLine, FirstFault}
-use Rattle.assembler.specs.Texts.{onward, with_line, words_from, counted, words_of}
+use Rattle.assembler.specs.Texts.{onward, with_line, words_from, counted}
 use Rattle.assembler.proofs.Faulting.{told}
 use Rattle.assembler.proofs.Saying.{spells_reads}
 

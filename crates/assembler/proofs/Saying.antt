@@ -1,8 +1,7 @@
 -- A line spells a word by its keyword just where it says an instruction that is encoded so, or gives the word.
-use Rattle.std.proofs.Common.{◌≡◌, ℕ, ◌+◌, ◌-◌, ◌*◌, ◌^◌, ◌<◌, ◌≤◌, ◌⊎◌, List, [], ◌∷◌, Ok, Err, codes, sym, refl, ap, ◌∙◌, subst, inl, inr, arith}
-use Rattle.text.specs.Numerals.{spelled, Spelled}
+use Rattle.std.proofs.Common.{◌≡◌, ℕ, ◌≤◌, List, [], ◌∷◌, Ok, codes, sym, refl, ap, ◌∙◌, subst, inl, inr, arith}
+use Rattle.text.specs.Numerals.{spelled}
 use Rattle.text.specs.Pieces.{pieces}
-use Rattle.u5.specs.declared.instruction.Instruction.{Instruction}
 use Rattle.u5.specs.declared.operation.Operation.{Operation}
 use Rattle.u5.specs.declared.operation.Kind.{Kind}
 use Rattle.u5.specs.declared.operation.Kind.TheVariants.{Register, Number}
@@ -10,12 +9,12 @@ use Rattle.u5.specs.declared.operation.Slot.{Slot}
 use Rattle.u5.specs.Operations.{largest}
 use Rattle.u5.specs.Operations as operations
 use Rattle.u5.specs.Slots.{InRange, placed}
-use Rattle.u5.specs.Words.{operation, values, encoded, bare}
+use Rattle.u5.specs.Words.{operation, values, bare}
 use Rattle.u5.proofs.Operands.{Made, made, encoded_placed}
 use Rattle.assembler.specs.declared.keyword.Keyword.{Keyword}
 use Rattle.assembler.specs.declared.keyword.Keyword.TheVariants.{Of, Word}
 use Rattle.assembler.specs.Keywords.{spelling, base, slots}
-use Rattle.assembler.specs.Grammar.{Names, NamesEach, Says, Gives, Spells}
+use Rattle.assembler.specs.Grammar.{Names, NamesEach, Spells}
 use Rattle.assembler.specs.Lines.{line_word}
 use Rattle.assembler.proofs.Reading.{SpellsBy, spelled_reads, reads_spelled}
 

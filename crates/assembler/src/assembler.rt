@@ -63,8 +63,8 @@ fn count_words(text: &[u8]) -> Result<usize, Fault>
 
 // Writes the words that `text` spells, four bytes each, and says where they end.
 fn write_words(text: &[u8], out: &mut [u8]) -> usize
-    requires text_value { is_ok (words_from 1 (pieces 10 text.now)) ≡ true }
-    requires text_in_bounds { length (bytes (words_of (words_from 1 (pieces 10 text.now)))) ≤ length out.old }
+    requires spells { is_ok (words_from 1 (pieces 10 text.now)) ≡ true }
+    requires room { length (bytes (words_of (words_from 1 (pieces 10 text.now)))) ≤ length out.old }
     ensures { Appended out.old 0 (bytes (words_of (words_from 1 (pieces 10 text.now)))) out.new result }
 {
     let mut lines = LineReader::new(text);

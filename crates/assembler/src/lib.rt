@@ -1,4 +1,6 @@
 // The assembler and the lister: from a text to words, and back.
+#![tactic(auto)]
+
 pub mod assembler;
 mod keyword;
 mod line;

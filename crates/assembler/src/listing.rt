@@ -41,8 +41,8 @@ fn listed_as(word: u32) -> Keyword
 }
 
 fn append_operand(out: &mut [u8], at: usize, kind: Kind, n: u32) -> usize
-    requires n_bound { n ≤ largest kind }
-    requires n_in_bounds { at + length (operand_text kind n) ≤ length out.old }
+    requires fits { n ≤ largest kind }
+    requires room { at + length (operand_text kind n) ≤ length out.old }
     ensures { Appended out.old at (operand_text kind n) out.new result }
 {
     match kind {

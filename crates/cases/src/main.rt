@@ -1,4 +1,6 @@
 // Compares answers of the station with those that were worked out by hand from the manual and the rules.
+#![tactic(auto)]
+
 mod bench;
 mod calls;
 mod case;

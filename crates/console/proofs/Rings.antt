@@ -1,9 +1,9 @@
 -- What a keyboard's ring holds once its first byte was removed.
-use Rattle.std.proofs.Common.{◌≡◌, ℕ, ◌+◌, ◌-◌, ◌<◌, ◌≤◌, List, [], ◌∷◌, length, get_or, Some, None, deque_items, deque_len, Option, sym, refl, ap, ◌∙◌, arith, MatchOption}
+use Rattle.std.proofs.Common.{◌≡◌, ℕ, ◌+◌, ◌-◌, ◌<◌, ◌≤◌, ◌↔◌, true, false, List, [], ◌∷◌, length, get_or, Some, None, deque_items, deque_len, Option, sym, refl, ap, ◌∙◌, arith, MatchOption, IfSome, OnSome, IfNone, IsSome}
 use Rattle.std.specs.List.{remove}
 use Rattle.std.specs.declared.collections.VecDeque.{VecDeque}
 use Rattle.std.specs.declared.alloc.Global.{Global}
-use Rattle.std.proofs.lemmas.List.{nil_from_length, drop_more}
+use Rattle.std.proofs.lemmas.List.{drop_more}
 use Rattle.console.specs.Consoles.{Takes, Pulls}
 use Rattle.console.specs.Kinds.{typed, typed_kind}
 
@@ -11,12 +11,20 @@ use Rattle.console.specs.Kinds.{typed, typed_kind}
 abbrev pub Shorter : List ℕ → Option ℕ → List ℕ → Type 0
 Shorter xs r ys = MatchOption r ((xs ≡ []) × (ys ≡ xs)) (λ y. xs ≡ y ∷ ys)
 
-pub first_removed : (q q' : VecDeque ℕ Global) (r : Option ℕ) → MatchOption r ((deque_len q ≤ 0) × (q' ≡ q)) (λ y. (y ≡ get_or (deque_items q) 0 y) × ((deque_items q' ≡ remove (deque_items q) 0) × ((deque_len q' + 1 ≡ deque_len q) × (0 < deque_len q)))) → Shorter (deque_items q) r (deque_items q')
-first_removed q q' None h = (nil_from_length (deque_items q) (omega (arith, q.ok.0)), ap deque_items h.1)
-first_removed q q' (Some y) h =
-    drop_more (deque_items q) 0 y (omega (arith, q.ok.0, h.1.1.1))
-    ∙ ap (λ z. z ∷ remove (deque_items q) 0) (sym h.0)
-    ∙ ap (λ l. y ∷ l) (sym h.1.0)
+none_empty : (xs : List ℕ) → (0 < length xs → ⊥) → xs ≡ []
+none_empty [] none = refl
+none_empty (x ∷ xs) none = absurd (none (omega arith))
+
+-- what `remove` says of the first place
+pub first_removed : (q q' : VecDeque ℕ Global) (r : Option ℕ)
+    → IfSome r (λ y. y ≡ get_or (deque_items q) 0 y) → OnSome r (deque_items q' ≡ remove (deque_items q) 0)
+    → IsSome r ↔ (0 < deque_len q) → IfNone r (q' ≡ q) → Shorter (deque_items q) r (deque_items q')
+first_removed q q' None first rest some same =
+    (none_empty (deque_items q) (λ more. let is : false ≡ true = some.1 (omega (arith, q.ok.0)) in cc), ap deque_items same)
+first_removed q q' (Some y) first rest some same =
+    drop_more (deque_items q) 0 y (omega (arith, q.ok.0, some.0 refl))
+    ∙ ap (λ z. z ∷ remove (deque_items q) 0) (sym first)
+    ∙ ap (λ l. y ∷ l) (sym rest)
 
 -- A byte that leaves a ring leaves its place to another.
 place_back : (places : ℕ) (xs ys : List ℕ) (y : ℕ) → length xs ≤ places → xs ≡ y ∷ ys → places - length ys ≡ places - length xs + 1

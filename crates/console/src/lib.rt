@@ -1,4 +1,6 @@
 // What a console is: bytes that wait to be taken, and bytes that were printed and wait to be pulled.
+#![tactic(auto)]
+
 ghost use Rattle.std.specs.Prelude.{◌≡◌, ◌≤◌, length};
 ghost use Rattle.console.specs.Consoles.{Console as Meaning, Kind, Takes, Puts, Offers, Pulls};
 

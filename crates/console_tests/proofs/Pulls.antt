@@ -1,5 +1,5 @@
 -- One more pull from a console, and the last one.
-use Rattle.std.proofs.Common.{◌≡◌, ℕ, ◌+◌, ◌-◌, ◌<◌, [], ◌∷◌, length, get_or, drop, Some, None, Option, sym, refl, ap, ◌∙◌, add-zero, add-mul, one-mul, zero-mul, arith}
+use Rattle.std.proofs.Common.{◌≡◌, ℕ, ◌+◌, ◌<◌, [], ◌∷◌, length, get_or, drop, Some, None, Option, sym, refl, ap, ◌∙◌, add-zero, add-mul, one-mul, zero-mul, arith}
 use Rattle.std.proofs.lemmas.List.{length-drop, drop_more, drop_all}
 use Rattle.console.specs.Consoles.{Kind, Console, Pulls}
 use Rattle.console_tests.specs.Draining.{Drained}

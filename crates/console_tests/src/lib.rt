@@ -1,4 +1,6 @@
 // A function over any console, proved from its meaning alone, and tests of each kind of console.
+#![tactic(auto)]
+
 ghost use Rattle.std.specs.Prelude.{◌≡◌, [], length};
 ghost use Rattle.console_tests.specs.Draining.{Drained};
 

@@ -1,4 +1,6 @@
 // What a disk is: a readable one, and a writable one that builds on it.
+#![tactic(auto)]
+
 ghost use Rattle.std.specs.Prelude.{◌≡◌, ℕ, Bool, List, length};
 ghost use Rattle.disk.specs.Disks.{disk, Whole, Reads, ReadsInto, Writes};
 

@@ -1,4 +1,6 @@
 // Functions over any disks, proved from their meaning alone, and tests of the images.
+#![tactic(auto)]
+
 ghost use Rattle.std.specs.Prelude.{◌≡◌, IfOk};
 ghost use Rattle.disk.specs.Disks.{disk};
 ghost use Rattle.disk_tests.specs.Using.{Copies, Last};

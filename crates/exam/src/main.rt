@@ -1,4 +1,6 @@
 // Runs the program on a disk once, with standard input as its script.
+#![tactic(auto)]
+
 use console::{Console, Script};
 use disk::{ReadOnlyImage, Readable, Writable};
 use host::{fill, load};

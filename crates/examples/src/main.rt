@@ -1,4 +1,6 @@
 // Marks every example, so that what each leaves is compared.
+#![tactic(auto)]
+
 use hand_in::hand_in;
 use std::{fs, io};
 

@@ -53,7 +53,7 @@ fn on_disk<'a, 'b, D: Writable>(
     out: &mut [u8],
     replies: &mut [Reply],
 ) -> usize
-    ensures { ComesTo given.entry.scripted given.entry.scripted given.entry.«data».now (disk_of D.Readable D.Writable disk.old) (console_given given.entry.scripted text.now (length paper.old)) given.entry.calls.now (buffers memory.old out.old paper.old replies.old) result (buffers memory.new out.new paper.new replies.new) }
+    ensures { ComesTo given.entry.scripted given.entry.scripted given.entry.«data».now (disk_of D.Readable D.Writable.own disk.old) (console_given given.entry.scripted text.now (length paper.old)) given.entry.calls.now (buffers memory.old out.old paper.old replies.old) result (buffers memory.new out.new paper.new replies.new) }
 {
     let data = given.data;
     let calls = given.calls;

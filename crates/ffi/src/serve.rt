@@ -22,7 +22,7 @@ fn answer<D: Writable, C: Console>(
     out: &mut [u8],
     call: Call,
 ) -> Reply
-    ensures { Answers C.Console.kind call «data».now (bench station.old memory.old (disk_of D.Readable D.Writable disk.old) (C.Console.meaning console.old) out.old) result (bench station.new memory.new (disk_of D.Readable D.Writable disk.new) (C.Console.meaning console.new) out.new) }
+    ensures { Answers C.Console.kind call «data».now (bench station.old memory.old (disk_of D.Readable D.Writable.own disk.old) (C.Console.meaning console.old) out.old) result (bench station.new memory.new (disk_of D.Readable D.Writable.own disk.new) (C.Console.meaning console.new) out.new) }
 {
     match asked_by(call.kind) {
         Asked::Start => start(station, memory, disk, console, call),
@@ -46,7 +46,7 @@ pub(crate) fn serve<D: Writable, C: Console>(
     calls: &[Call],
     replies: &mut [Reply],
 ) -> usize
-    ensures { (s : Station) × Served C.Console.kind «data».now (new_bench memory.old (disk_of D.Readable D.Writable disk.old) (C.Console.meaning console.old) out.old) calls.now replies.old result replies.new (bench s memory.new (disk_of D.Readable D.Writable disk.new) (C.Console.meaning console.new) out.new) }
+    ensures { (s : Station) × Served C.Console.kind «data».now (new_bench memory.old (disk_of D.Readable D.Writable.own disk.old) (C.Console.meaning console.old) out.old) calls.now replies.old result replies.new (bench s memory.new (disk_of D.Readable D.Writable.own disk.new) (C.Console.meaning console.new) out.new) }
 {
     let mut station = Station::new();
     let count = calls.len().min(replies.len());

@@ -44,7 +44,7 @@ pub(crate) fn run<D: Writable, C: Console>(
     console: &mut C,
     call: Call,
 ) -> Reply
-    ensures { (output : List ℕ) → Ran C.Console.kind call (bench station.old memory.old (disk_of D.Readable D.Writable disk.old) (C.Console.meaning console.old) output) result (bench station.new memory.new (disk_of D.Readable D.Writable disk.new) (C.Console.meaning console.new) output) }
+    ensures { (output : List ℕ) → Ran C.Console.kind call (bench station.old memory.old (disk_of D.Readable D.Writable.own disk.old) (C.Console.meaning console.old) output) result (bench station.new memory.new (disk_of D.Readable D.Writable.own disk.new) (C.Console.meaning console.new) output) }
 {
     let end = call.memory.min(memory.len());
     of_run(station.run(&mut memory[..end], disk, console, call.number))

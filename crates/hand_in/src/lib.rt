@@ -1,4 +1,6 @@
 // One hand-in from beginning to end, each step printed.
+#![tactic(auto)]
+
 mod answer;
 mod exam;
 mod record;

@@ -1,5 +1,5 @@
 -- The example history, call by call.
-use Rattle.std.proofs.Common.{◌≡◌, ℕ, zero, suc, ◌<◌, List, [], ◌∷◌, ◌++◌, length, replicate, Ok, Err, refl, inl, inr, arith, lit<, lit≤}
+use Rattle.std.proofs.Common.{◌≡◌, ℕ, List, [], ◌∷◌, length, replicate, Ok, Err, refl, inl, inr, arith, lit<, lit≤}
 use lib.ListN.{length-replicate}
 use Rattle.u5.specs.Words.{register, decoded}
 use Rattle.text.specs.declared.fault.Cause.TheVariants.{Spelling}
@@ -20,11 +20,11 @@ use Rattle.station.specs.declared.answer.Stop.TheVariants as stop
 use Rattle.station.specs.declared.answer.StartRefusal.TheVariants as start
 use Rattle.station.specs.declared.answer.RunRefusal.TheVariants as run
 use Rattle.station.specs.declared.answer.TallyRefusal.TheVariants as tally
-use Rattle.station.specs.declared.unit.Phase.TheVariants.{Unstarted, Running, Ended}
-use Rattle.station.specs.Machines.{Machine, took, printed, no_step, one_step, in_want, at_halt, no_input}
-use Rattle.station.specs.Worlds.{World, processor_of, sectors_of, Starts, Runs, Feeds, Collects, Tallies, goes_on, has_ended}
-use Rattle.station.specs.Histories.{with_memory, History, started, ran, fed_bytes, collected_bytes, tallied, start_refused, run_refused, tally_refused}
-use Rattle.histories.specs.Examples.{kind, sector, disk, console, at, begun, taken, found, after_start, after_feed, after_halt, after_collection, sheet, totals, Example}
+use Rattle.station.specs.declared.unit.Phase.TheVariants.{Running, Ended}
+use Rattle.station.specs.Machines.{took, printed, no_step, one_step, in_want, at_halt, no_input}
+use Rattle.station.specs.Worlds.{processor_of, sectors_of, Starts, Runs, Feeds, Collects, Tallies, goes_on, has_ended}
+use Rattle.station.specs.Histories.{with_memory, started, ran, fed_bytes, collected_bytes, tallied, start_refused, run_refused, tally_refused}
+use Rattle.histories.specs.Examples.{kind, console, at, begun, taken, found, after_start, after_feed, after_halt, after_collection, sheet, Example}
 
 starts : Starts found (Ok tt) after_start
 starts = record {

@@ -1,5 +1,5 @@
 -- A run is part of a history, accepted or refused.
-use Rattle.std.proofs.Common.{◌≡◌, ℕ, Ok, Err, Result, sym, subst}
+use Rattle.std.proofs.Common.{ℕ, Ok, Err, Result, sym, subst}
 use Rattle.console.specs.Consoles.{Kind}
 use Rattle.station.specs.declared.answer.Answer.{Answer}
 use Rattle.station.specs.declared.answer.RunRefusal.{RunRefusal}

@@ -1,5 +1,5 @@
 -- The history that a sitting is.
-use Rattle.std.specs.Prelude.{◌≡◌, ℕ, ◌+◌, List, [], ◌++◌, take, Ok, Err, Result}
+use Rattle.std.specs.Prelude.{ℕ, ◌+◌, List, [], ◌++◌, take, Ok, Err, Result}
 use Rattle.console.specs.Consoles.{Kind}
 use Rattle.station.specs.declared.answer.Answer.{Answer}
 use Rattle.station.specs.declared.answer.RunRefusal.{RunRefusal}

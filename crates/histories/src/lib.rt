@@ -1,4 +1,6 @@
 // Whole sittings of a station, and the histories that they are.
+#![tactic(auto)]
+
 ghost use Rattle.std.specs.Prelude.{◌≡◌};
 ghost use Rattle.station.specs.Views.{world, disk_of};
 ghost use Rattle.histories.specs.Examples.{Example};
@@ -30,7 +32,7 @@ pub fn sit<D: Writable, C: Console>(
     sheet: &[u8],
     steps: u32,
 ) -> Result<Report, StartRefusal>
-    ensures { Sat C.Console.kind (world station.old memory.old (disk_of D.Readable D.Writable disk.old) (C.Console.meaning console.old)) script.now paper.new result (world station.new memory.new (disk_of D.Readable D.Writable disk.new) (C.Console.meaning console.new)) }
+    ensures { Sat C.Console.kind (world station.old memory.old (disk_of D.Readable D.Writable.own disk.old) (C.Console.meaning console.old)) script.now paper.new result (world station.new memory.new (disk_of D.Readable D.Writable.own disk.new) (C.Console.meaning console.new)) }
 {
     match station.start(memory, disk, console) {
         Err(refusal) => Err(refusal),

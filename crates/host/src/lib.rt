@@ -1,4 +1,6 @@
 // What the programs share: the beginning of a file or of the standard input, in a buffer.
+#![tactic(auto)]
+
 ghost use Rattle.std.specs.Prelude.{◌≤◌, length, IfOk};
 
 use std::fs::File;

@@ -30,26 +30,26 @@ fn number(fields: &mut FieldReader, place: usize, limit: u32) -> Result<u32, Fie
 
 // A call that has a number behind its word.
 fn with_number<'a>(word: &[u8], fields: &mut FieldReader<'a>) -> Result<Call<'a>, FieldFault> {
-    if word == b"memory" {
+    if word == b"memory".as_slice() {
         return Ok(Call::Memory(number(fields, 2, MEMORY)?));
     }
     let count = number(fields, 2, u32::MAX)?;
-    if word == b"run" {
+    if word == b"run".as_slice() {
         return Ok(Call::Run(count));
     }
-    if word == b"collect" {
+    if word == b"collect".as_slice() {
         return Ok(Call::Collect(count));
     }
-    if word == b"draw" {
+    if word == b"draw".as_slice() {
         return Ok(Call::Draw(count));
     }
-    if word == b"give-back" {
+    if word == b"give-back".as_slice() {
         return Ok(Call::GiveBack(count));
     }
-    if word == b"settle" {
+    if word == b"settle".as_slice() {
         return Ok(Call::Settle(count));
     }
-    if word == b"open" {
+    if word == b"open".as_slice() {
         let grant = number(fields, 3, u32::MAX)?;
         return Ok(Call::Open {
             candidate: count,
@@ -60,19 +60,19 @@ fn with_number<'a>(word: &[u8], fields: &mut FieldReader<'a>) -> Result<Call<'a>
 }
 
 fn by_word<'a>(word: &[u8], fields: &mut FieldReader<'a>) -> Result<Call<'a>, FieldFault> {
-    if word == b"start" {
+    if word == b"start".as_slice() {
         return Ok(Call::Start);
     }
-    if word == b"registers" {
+    if word == b"registers".as_slice() {
         return Ok(Call::Registers);
     }
-    if word == b"void" {
+    if word == b"void".as_slice() {
         return Ok(Call::Void);
     }
-    if word == b"feed" {
+    if word == b"feed".as_slice() {
         return Ok(Call::Feed(fields.field(2)?));
     }
-    if word == b"tally" {
+    if word == b"tally".as_slice() {
         return Ok(Call::Tally(fields.field(2)?));
     }
     with_number(word, fields)

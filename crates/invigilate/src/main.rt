@@ -1,4 +1,6 @@
 // A hall's day from lines of calls: each is answered by a line.
+#![tactic(auto)]
+
 mod call;
 mod desk;
 mod hall;
@@ -67,10 +69,13 @@ fn with_disk<B: BufRead, D: Writable>(
         };
         match three_fields(line.as_slice()) {
             Ok((word, kind, file)) => {
-                if word == b"console" && kind == b"keyboard" && file.is_empty() {
+                if word == b"console".as_slice()
+                    && kind == b"keyboard".as_slice()
+                    && file.is_empty()
+                {
                     return with_keyboard(rt, input, disk);
                 }
-                if word == b"console" && kind == b"script" {
+                if word == b"console".as_slice() && kind == b"script".as_slice() {
                     if let Some(text) = load(rt, file)? {
                         let mut paper = [0u8; 4096];
                         return with_script(rt, input, disk, text.as_slice(), &mut paper);
@@ -105,13 +110,13 @@ fn with_bytes<B: BufRead>(
 }
 
 fn disk_kind(word: &[u8], kind: &[u8]) -> Option<DiskKind> {
-    if word != b"disk" {
+    if word != b"disk".as_slice() {
         return None;
     }
-    if kind == b"image" {
+    if kind == b"image".as_slice() {
         return Some(DiskKind::Image);
     }
-    if kind == b"overlay" {
+    if kind == b"overlay".as_slice() {
         return Some(DiskKind::Overlay);
     }
     None

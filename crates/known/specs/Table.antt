@@ -1,5 +1,5 @@
 -- The table of known values, in the words of the crates that they are about.
-use Rattle.std.specs.Prelude.{◌≡◌, ℕ, ◌-◌, false, List, [], ◌∷◌, ◌++◌, set, replicate, Ok, codes, slice_set}
+use Rattle.std.specs.Prelude.{◌≡◌, ℕ, ◌-◌, false, List, [], ◌∷◌, ◌++◌, replicate, Ok, codes, slice_set}
 use Rattle.u5.specs.Words.{register}
 use Rattle.u5.specs.declared.instruction.Instruction.{Instruction}
 use Rattle.u5.specs.declared.instruction.Instruction.TheVariants.{Add}

@@ -1,4 +1,6 @@
 // Marks the hand-in in the working directory, with standard input as its input.
+#![tactic(auto)]
+
 use hand_in::hand_in;
 use std::io::Read;
 use std::{env, io};

@@ -1,5 +1,5 @@
 -- No action leaves a register file whose r0 is not 0, and memory keeps its length.
-use Rattle.std.proofs.Common.{◌≡◌, ℕ, ◌+◌, ◌-◌, ◌<◌, ◌≤◌, Bool, true, false, cond, eqb, ltb, leb, List, [], ◌++◌, length, get_or, take, drop, set, Some, None, Option, sym, refl, ap, ◌∙◌, subst, arith, length-append, length-drop, length-set, length-take, get_or-set_other}
+use Rattle.std.proofs.Common.{◌≡◌, ℕ, ◌+◌, ◌≤◌, Bool, false, eqb, List, [], length, get_or, set, Some, None, Option, sym, refl, ◌∙◌, arith, length-append, length-drop, length-set, length-take, get_or-set_other}
 use Rattle.std.proofs.lemmas.Bool.{cond_both, eqb-false, ltb-false, leb-false}
 use Rattle.u5.specs.Words.{decoded}
 use Rattle.u5.specs.declared.operand.Register.{Register}

@@ -1,14 +1,13 @@
 -- Bits that no operand uses do not matter.
-use Rattle.std.proofs.Common.{◌≡◌, ℕ, ◌+◌, ◌/◌, ◌^◌, ◌<◌, List, Some, sym, refl, ap, ◌∙◌, arith}
+use Rattle.std.proofs.Common.{◌≡◌, ℕ, ◌+◌, ◌/◌, ◌^◌, ◌<◌, Some, sym, refl, ap, ◌∙◌, arith}
 use Rattle.u5.specs.declared.operand.Register.{Register}
 use Rattle.u5.specs.declared.operation.Operation.{Operation}
 use Rattle.u5.specs.declared.operation.Operation.TheVariants as o
 use Rattle.u5.specs.declared.instruction.Instruction.{Instruction}
 use Rattle.u5.specs.declared.instruction.Instruction.TheVariants.{LoadB, LoadH, LoadW, StoreB, StoreH, StoreW, Add, Mul, Div, Nor, MovI, CMov, In, Out, Read, Write, Halt}
 use Rattle.u5.specs.Operations.{opcode, coded, unused}
-use Rattle.u5.specs.Words.{operation, encoded, three, two, one, bare, moved, field_a, field_b, field_c, instruction, decoded_as, decoded}
+use Rattle.u5.specs.Words.{operation, encoded, three, two, one, field_a, field_b, field_c, instruction, decoded_as, decoded}
 use Rattle.u5.proofs.Encodings.{same_register, same_immediate, same_shift, coded_opcode}
-use Rattle.processor.specs.Machine.{Processor}
 use Rattle.processor.specs.Effects.{obeyed, fetched}
 use Rattle.processor.specs.Laws.{UnusedBitsIgnored}
 use Rattle.processor.proofs.Fetches.{obeys}

@@ -1,5 +1,5 @@
 -- Registers and memory as lists of numbers.
-use Rattle.std.specs.Prelude.{ℕ, ◌+◌, ◌-◌, ◌/◌, ◌%◌, ◌^◌, Bool, cond, List, [], ◌∷◌, ◌++◌, take, drop, ◌==◌, slice_index, slice_set}
+use Rattle.std.specs.Prelude.{ℕ, ◌+◌, ◌-◌, ◌/◌, ◌%◌, ◌^◌, cond, List, [], ◌∷◌, ◌++◌, take, drop, ◌==◌, slice_index, slice_set}
 use Rattle.std.specs.Int.Digits.{number_from_digits}
 
 -- the low 32 bits

@@ -5,8 +5,8 @@ ghost use Rattle.processor.specs.Words.{number_of, last_bytes, overwritten};
 
 // The number that `width` bytes of memory are.
 pub(crate) fn load(memory: &[u8], at: usize, width: usize) -> u32
-    requires width_in_bounds { at + width ≤ length memory.now }
-    requires width_bound { width ≤ 4 }
+    requires inside { at + width ≤ length memory.now }
+    requires narrow { width ≤ 4 }
     ensures { result ≡ number_of (between at (at + width) memory.now) }
 {
     let mut bytes = [0u8; 4];
@@ -16,8 +16,8 @@ pub(crate) fn load(memory: &[u8], at: usize, width: usize) -> u32
 
 // The last `width` bytes of the value go to memory.
 pub(crate) fn store(memory: &mut [u8], at: usize, width: usize, value: u32)
-    requires width_in_bounds { at + width ≤ length memory.old }
-    requires width_bound { width ≤ 4 }
+    requires inside { at + width ≤ length memory.old }
+    requires narrow { width ≤ 4 }
     ensures { memory.new ≡ overwritten at width (last_bytes width value) memory.old }
 {
     let bytes = value.to_be_bytes();

@@ -1,4 +1,6 @@
 // The U5's processor: its registers, and what its next instruction does or asks.
+#![tactic(auto)]
+
 mod bytes;
 mod decide;
 pub mod ending;

@@ -1,18 +1,17 @@
 -- A sheet is read as the marks that its lines tell, and only so.
-use Rattle.std.proofs.Common.{◌≡◌, ℕ, suc, ◌%◌, ◌^◌, ◌<◌, ◌≤◌, Bool, true, false, cond, eqb, List, [], ◌∷◌, length, get_or, Some, None, Ok, Err, codes, Option, Result, sym, refl, ap, ◌∙◌, subst, ⊎_elim, arith}
+use Rattle.std.proofs.Common.{◌≡◌, ℕ, suc, ◌%◌, ◌^◌, ◌<◌, ◌≤◌, cond, eqb, List, [], ◌∷◌, length, Some, None, Ok, Err, codes, Option, Result, sym, refl, ap, ◌∙◌, subst, ⊎_elim, arith}
 use Rattle.std.proofs.lemmas.Bool.{cond-true, cond-false, cases_Bool, eqb-true, eqb-false, ne_eqb}
 use Rattle.text.specs.declared.fault.Cause.{Cause}
-use Rattle.text.specs.declared.fault.Cause.TheVariants.{Spelling, Size, Missing}
+use Rattle.text.specs.declared.fault.Cause.TheVariants.{Spelling, Size}
 use Rattle.text.specs.declared.fault.FieldFault.{FieldFault}
 use Rattle.text.specs.declared.fault.Fault.{Fault}
-use Rattle.text.specs.Faults.{at_field, in_field, on_line}
-use Rattle.text.specs.Numerals.{number_up_to, spelled, Spelled}
+use Rattle.text.specs.Faults.{in_field, on_line}
+use Rattle.text.specs.Numerals.{number_up_to, spelled}
 use Rattle.text.specs.Pieces.{pieces}
 use Rattle.text.proofs.Spelling.{number_reads, number_read}
 use Rattle.processor.specs.declared.ending.Ending.{Ending}
 use Rattle.processor.specs.Names.{ending_name, ending_named, every_ending}
 use Rattle.processor.proofs.Naming.{named_name}
-use Rattle.u5.specs.declared.operand.Register.{Register}
 use Rattle.u5.specs.Words.{register}
 use Rattle.u5.proofs.Encodings.{same_register}
 use Rattle.u5.proofs.Tables.{called_is}

@@ -1,5 +1,5 @@
 -- A sheet gives one answer.
-use Rattle.std.proofs.Common.{◌≡◌, ℕ, ◌+◌, ◌<◌, ◌≤◌, List, [], ◌∷◌, length, Ok, Err, Result, sym, refl, ap, ◌∙◌, subst, arith}
+use Rattle.std.proofs.Common.{◌≡◌, ℕ, List, Ok, Err, Result, sym, refl, ap, ◌∙◌, subst, arith}
 use Rattle.text.specs.declared.fault.Fault.{Fault}
 use Rattle.text.specs.Pieces.{pieces}
 use Rattle.processor.specs.declared.ending.Ending.{Ending}

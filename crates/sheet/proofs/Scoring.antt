@@ -1,5 +1,5 @@
 -- A sheet is scored line by line.
-use Rattle.std.proofs.Common.{◌≡◌, ℕ, suc, ◌+◌, ◌<◌, eqb, List, [], ◌∷◌, length, Some, None, Ok, Err, Option, Result, sym, refl, ap, ◌∙◌, subst, add-zero, add_assoc, zero-add, arith, Bor}
+use Rattle.std.proofs.Common.{◌≡◌, ℕ, suc, ◌+◌, ◌<◌, eqb, List, [], ◌∷◌, length, None, Ok, Err, Option, Result, sym, refl, ap, ◌∙◌, subst, add-zero, add_assoc, zero-add, arith, Bor}
 use Rattle.std.proofs.lemmas.Bool.{cond-false, ne_eqb}
 use Rattle.text.specs.declared.fault.Cause.TheVariants.{End}
 use Rattle.text.specs.declared.fault.FieldFault.{FieldFault}
@@ -10,7 +10,7 @@ use Rattle.text.proofs.Placing.{on_line_ok, fault_on_line}
 use Rattle.processor.specs.declared.ending.Ending.{Ending}
 use Rattle.processor.specs.Machine.{Processor}
 use Rattle.sheet.specs.declared.mark.Mark.{Mark}
-use Rattle.sheet.specs.Marks.{Earns, Earn, no_marks, one_mark}
+use Rattle.sheet.specs.Marks.{Earns, no_marks, one_mark}
 use Rattle.sheet.specs.Lines.{line_mark, onward, with_line, marks_from}
 use Rattle.sheet.specs.Sheets.{Score}
 

@@ -1,5 +1,5 @@
 -- The mark of a register, whose number is read as a number.
-use Rattle.std.proofs.Common.{◌≡◌, ℕ, ◌%◌, List, Ok, ap, ◌∙◌, arith}
+use Rattle.std.proofs.Common.{◌≡◌, ℕ, List, Ok, ap, ◌∙◌, arith}
 use Rattle.text.specs.Numerals.{number_up_to}
 use Rattle.u5.specs.declared.operand.Register.{Register}
 use Rattle.u5.specs.Words.{register}

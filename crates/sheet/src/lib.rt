@@ -1,4 +1,6 @@
 // Sheets: what an ended station is marked by.
+#![tactic(auto)]
+
 mod fields;
 mod line;
 pub mod mark;

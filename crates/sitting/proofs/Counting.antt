@@ -1,5 +1,5 @@
 -- What a history of a sitting adds up to.
-use Rattle.std.proofs.Common.{◌≡◌, ℕ, ◌+◌, ◌≤◌, sym, refl, ap, subst, arith}
+use Rattle.std.proofs.Common.{◌≡◌, ℕ, ◌+◌, ◌≤◌, sym, subst, arith}
 use Rattle.sitting.specs.Accounts.{Account}
 use Rattle.sitting.specs.Histories.{History, begun, drew, not_drawn, gave, not_given}
 

@@ -1,4 +1,6 @@
 // Sittings that are settled and voided, at the edges of what can be drawn and given back.
+#![tactic(auto)]
+
 use sitting::calls::open;
 use sitting::refusal::OpenRefusal;
 use sitting::token::{Settled, Sitting, Voided};

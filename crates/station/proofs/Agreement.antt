@@ -1,8 +1,8 @@
 -- Any two histories agree.
-use Rattle.std.proofs.Common.{◌≡◌, ℕ, zero, suc, ◌+◌, ◌<◌, ◌≤◌, ◌⊎◌, List, [], ◌∷◌, ◌++◌, length, IfOk, Some, None, Ok, Err, Option, Result, sym, refl, ap, ◌∙◌, subst, inl, inr, arith}
+use Rattle.std.proofs.Common.{◌≡◌, ℕ, ◌<◌, ◌⊎◌, List, ◌++◌, length, IfOk, Some, None, Ok, Err, Option, Result, sym, refl, ap, ◌∙◌, subst, inl, inr, arith}
 use Rattle.processor.specs.declared.ending.Ending.{Ending}
 use Rattle.processor.specs.declared.ending.Want.{Want}
-use Rattle.processor.specs.Machine.{Processor, ends}
+use Rattle.processor.specs.Machine.{Processor}
 use Rattle.processor.specs.Effects.{action}
 use Rattle.console.specs.Consoles.{Kind}
 use Rattle.station.specs.declared.answer.Answer.{Answer}
@@ -13,9 +13,9 @@ use Rattle.station.specs.declared.answer.TallyRefusal.{TallyRefusal}
 use Rattle.station.specs.declared.unit.Phase.{Phase}
 use Rattle.station.specs.declared.unit.Phase.TheVariants.{Ended}
 use Rattle.station.specs.Machines.{Machine, next as asks, Lacks, Goes, all_spent, in_want, at_end, at_halt}
-use Rattle.station.specs.Worlds.{World, processor_of, memory_of, sectors_of, console_of, started_with, ending_of, phase_after, Ran, goes_on, has_ended, Runs, Tallies}
-use Rattle.station.specs.Histories.{Begins, ◌∈◌, Totals, History, text, SameMachine, Follows, BothEnded, Agree, AnyTwoAgree, CutShort, StopsForAReason, HistoriesAgree}
-use Rattle.station.proofs.Trace.{State, at, turn, next, After, after_more, same, prefix, last}
+use Rattle.station.specs.Worlds.{World, processor_of, memory_of, sectors_of, console_of, ending_of, phase_after, Ran, goes_on, has_ended, Runs, Tallies}
+use Rattle.station.specs.Histories.{◌∈◌, Totals, text, SameMachine, Follows, BothEnded, AnyTwoAgree, CutShort, StopsForAReason, HistoriesAgree}
+use Rattle.station.proofs.Trace.{State, at, turn, After, after_more, same, prefix, last}
 use Rattle.station.proofs.Reach.{clash, Over, by_halt, by_end, Fits, running, over, Reached, begin, reached, stays_ended, stays_sized}
 use Rattle.station.proofs.Tallying.{one_answer, phase_known}
 

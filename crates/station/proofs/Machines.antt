@@ -1,17 +1,17 @@
 -- Machines that differ in one part.
-use Rattle.std.proofs.Common.{◌≡◌, ℕ, ◌+◌, ◌-◌, ◌<◌, ◌≤◌, List, [], ◌++◌, length, take, drop, Result, sym, refl, ap, ◌∙◌, subst, arith}
+use Rattle.std.proofs.Common.{◌≡◌, ℕ, ◌<◌, ◌≤◌, List, ◌++◌, length, take, drop, Result, sym, ap, ◌∙◌, subst}
 use borrow.Rule.Slice.PartMut.{put_mid}
 use Rattle.std.proofs.lemmas.List.{take-append-drop}
 use Rattle.std.proofs.lemmas.Bool.{cond-true, cond-false, le-leb, lt-leb}
 use Rattle.processor.specs.declared.ending.Ending.TheVariants.{Sector}
-use Rattle.processor.specs.Machine.{Processor, Action, ends, goes}
+use Rattle.processor.specs.Machine.{Processor, Action, ends}
 use Rattle.processor.specs.Effects.{missing, unless}
 use Rattle.disk.specs.declared.ReadRefusal.{ReadRefusal}
 use Rattle.disk.specs.declared.WriteRefusal.{WriteRefusal}
 use Rattle.disk.specs.Disks.{Disk, Written, Writes, ReadsInto}
 use Rattle.console.specs.Consoles.{Console, Kind}
 use Rattle.station.specs.declared.answer.Trial.{Trial}
-use Rattle.station.specs.Machines.{Machine, Step, went, Tries, next}
+use Rattle.station.specs.Machines.{Machine, Tries}
 
 pub same_processor : (ws ws' ms ms' : List ℕ) → ws ≡ ws' → ms ≡ ms' → ◌≡◌ {A = Processor} (record { registers = ws; memory = ms }) (record { registers = ws'; memory = ms' })
 same_processor ws ws' ms ms' p q = cc

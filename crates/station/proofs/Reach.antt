@@ -2,18 +2,18 @@
 use Rattle.std.proofs.Common.{◌≡◌, ℕ, zero, suc, ◌+◌, List, [], ◌∷◌, ◌++◌, length, get_or, take, drop, replicate, Some, None, Option, sym, refl, ap, ◌∙◌, subst, append_assoc, append-nil, add-zero, add-suc, arith}
 use Rattle.processor.specs.declared.ending.Ending.{Ending}
 use Rattle.processor.specs.declared.ending.Ending.TheVariants.{Halt}
-use Rattle.processor.specs.Machine.{Processor, Action, ends, goes, takes, prints, writes, halts}
+use Rattle.processor.specs.Machine.{Processor, ends}
 use Rattle.processor.specs.Effects.{action}
 use Rattle.console.specs.Consoles.{Kind, Console}
 use Rattle.console.specs.Queues.{AllOffered, none_offered, one_offered, AllPulled, none_pulled, one_pulled}
 use Rattle.station.specs.declared.answer.Stop.{Stop}
 use Rattle.station.specs.declared.answer.Stop.TheVariants as stop
 use Rattle.station.specs.declared.unit.Phase.{Phase}
-use Rattle.station.specs.declared.unit.Phase.TheVariants.{Unstarted, Running, Ended}
+use Rattle.station.specs.declared.unit.Phase.TheVariants.{Running}
 use Rattle.station.specs.Machines.{Machine, next as asks, Step, went, took, printed, wrote, Halts, Steps, no_step, one_step, Goes, all_spent, in_want, at_end, at_halt}
-use Rattle.station.specs.Worlds.{World, processor_of, memory_of, sectors_of, console_of, started_with, ending_of, phase_after, Begun, Ran, goes_on, has_ended, Aside}
+use Rattle.station.specs.Worlds.{World, processor_of, memory_of, sectors_of, console_of, started_with, ending_of, phase_after, Begun, goes_on, has_ended, Aside}
 use Rattle.station.specs.Histories.{◌∈◌, latest, earlier, Totals, answered, History, started, ran, fed_bytes, collected_bytes, tallied, start_refused, run_refused, tally_refused, text}
-use Rattle.station.proofs.Trace.{State, at, turn, more_fed, next, After, begun, then, after_more}
+use Rattle.station.proofs.Trace.{State, at, After, begun, then, after_more}
 
 -- two different answers to one question
 pub clash : {B : Type 0} {e : Ending} {o : Option Ending} → o ≡ None → o ≡ Some e → B

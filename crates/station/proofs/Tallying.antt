@@ -1,5 +1,5 @@
 -- A tally has one answer.
-use Rattle.std.proofs.Common.{◌≡◌, ℕ, cond, eqb, ◌≢◌, ◌⊎◌, List, length, Some, None, Ok, Err, Result, sym, refl, ap, ◌∙◌, subst, inl, inr, arith}
+use Rattle.std.proofs.Common.{◌≡◌, ℕ, cond, eqb, List, length, Some, Ok, Err, Result, sym, refl, ap, ◌∙◌, subst, arith}
 use Rattle.std.proofs.lemmas.Bool.{cond-true, cond-false, eq-eqb, ne_eqb}
 use Rattle.processor.specs.declared.ending.Ending.{Ending}
 use Rattle.processor.specs.Machine.{Processor}

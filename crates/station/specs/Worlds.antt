@@ -2,7 +2,6 @@
 use Rattle.std.specs.Prelude.{◌≡◌, ℕ, zero, ◌%◌, ◌<◌, ◌≤◌, ◌≢◌, List, [], ◌++◌, length, take, drop, replicate, Some, None, Ok, Err, Option, Result, slice_index_or}
 use Rattle.processor.specs.declared.ending.Ending.{Ending}
 use Rattle.processor.specs.Machine.{Processor}
-use Rattle.disk.specs.Disks.{Disk}
 use Rattle.console.specs.Consoles.{Kind, Console}
 use Rattle.console.specs.Queues as queue
 use Rattle.station.specs.declared.answer.Answer.{Answer}

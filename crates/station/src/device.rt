@@ -47,7 +47,7 @@ fn read<D: Writable>(
     sector: u32,
 ) -> Trial
     requires { at + 512 ≤ length memory.old }
-    ensures { AsksDisk D.Readable D.Writable (reading at sector) registers.old memory.old disk.now result registers.new memory.new disk.now }
+    ensures { AsksDisk D.Readable D.Writable.own (reading at sector) registers.old memory.old disk.now result registers.new memory.new disk.now }
 {
     match disk.read_into(sector, &mut memory[at..at + 512]) {
         Err(refusal) => match refusal {
@@ -70,7 +70,7 @@ fn write<D: Writable>(
     sector: u32,
 ) -> Trial
     requires { at + 512 ≤ length memory.now }
-    ensures { AsksDisk D.Readable D.Writable (writing at sector) registers.old memory.now disk.old result registers.new memory.now disk.new }
+    ensures { AsksDisk D.Readable D.Writable.own (writing at sector) registers.old memory.now disk.old result registers.new memory.now disk.new }
 {
     let mut block = [0; 512];
     block.copy_from_slice(&memory[at..at + 512]);
@@ -93,7 +93,7 @@ pub(crate) fn step<D: Writable, C: Console>(
     disk: &mut D,
     console: &mut C,
 ) -> Trial
-    ensures { Attempts D.Readable D.Writable C.Console registers.old memory.old disk.old console.old result registers.new memory.new disk.new console.new }
+    ensures { Attempts D.Readable D.Writable.own C.Console registers.old memory.old disk.old console.old result registers.new memory.new disk.new console.new }
 {
     match registers.step(memory) {
         Outcome::Done => Trial::Done,

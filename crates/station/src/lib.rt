@@ -1,4 +1,6 @@
 // The exam station: start, run, feed, collect and tally, over any disk and console.
+#![tactic(auto)]
+
 pub mod answer;
 mod device;
 mod look;

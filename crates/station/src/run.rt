@@ -21,7 +21,7 @@ fn go<D: Writable, C: Console>(
     console: &mut C,
     granted: u32,
 ) -> Answer
-    ensures { Goes C.Console.kind (seen D.Readable D.Writable C.Console registers.old memory.old disk.old console.old) granted result.count result.stop (seen D.Readable D.Writable C.Console registers.new memory.new disk.new console.new) }
+    ensures { Goes C.Console.kind (seen D.Readable D.Writable.own C.Console registers.old memory.old disk.old console.old) granted result.count result.stop (seen D.Readable D.Writable.own C.Console registers.new memory.new disk.new console.new) }
 {
     let mut count = 0;
     while count < granted {
@@ -74,7 +74,7 @@ impl Station {
         console: &mut C,
         steps: u32,
     ) -> Result<Answer, RunRefusal>
-        ensures { Runs C.Console.kind (world self.old memory.old (disk_of D.Readable D.Writable disk.old) (C.Console.meaning console.old)) steps result (world self.new memory.new (disk_of D.Readable D.Writable disk.new) (C.Console.meaning console.new)) }
+        ensures { Runs C.Console.kind (world self.old memory.old (disk_of D.Readable D.Writable.own disk.old) (C.Console.meaning console.old)) steps result (world self.new memory.new (disk_of D.Readable D.Writable.own disk.new) (C.Console.meaning console.new)) }
     {
         match self.phase {
             Phase::Unstarted => Err(RunRefusal::NotStarted),
@@ -106,8 +106,8 @@ impl Station {
         console: &mut C,
         steps: u32,
     ) -> Result<Answer, RunRefusal>
-        ensures runs { Runs C.Console.kind (world self.old memory.old (disk_of D.Readable D.Writable disk.old) (C.Console.meaning console.old)) steps result (world self.new memory.new (disk_of D.Readable D.Writable disk.new) (C.Console.meaning console.new)) }
-        ensures short { IfOk result (λ a. a.count < steps → CutShort a (world self.new memory.new (disk_of D.Readable D.Writable disk.new) (C.Console.meaning console.new))) }
+        ensures runs { Runs C.Console.kind (world self.old memory.old (disk_of D.Readable D.Writable.own disk.old) (C.Console.meaning console.old)) steps result (world self.new memory.new (disk_of D.Readable D.Writable.own disk.new) (C.Console.meaning console.new)) }
+        ensures short { IfOk result (λ a. a.count < steps → CutShort a (world self.new memory.new (disk_of D.Readable D.Writable.own disk.new) (C.Console.meaning console.new))) }
     {
         self.execute(memory, disk, console, steps)
     }

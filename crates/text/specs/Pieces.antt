@@ -1,5 +1,5 @@
 -- A text cut at each place that holds a mark.
-use Rattle.std.specs.Prelude.{◌≡◌, ℕ, cond, List, [], ◌∷◌, ◌++◌, length, drop, ◌==◌, ◌≢◌, nat_le}
+use Rattle.std.specs.Prelude.{ℕ, cond, List, [], ◌∷◌, ◌++◌, length, drop, ◌==◌, ◌≢◌, nat_le}
 use Rattle.std.specs.List.{AllByRecursion}
 
 abbrev pub on_first : ℕ → List (List ℕ) → List (List ℕ)

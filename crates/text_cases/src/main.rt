@@ -1,4 +1,6 @@
 // Compares answers of the assembler and the lister with those that were worked out by hand.
+#![tactic(auto)]
+
 use anyhow::anyhow;
 use assembler::assembler::{AssembleRefusal, assemble};
 use assembler::lister::list;

@@ -1,8 +1,8 @@
 -- An encoded instruction decodes to itself, and a decoded word is its instruction's but for the unused bits.
-use Rattle.std.proofs.Common.{◌≡◌, ℕ, ◌+◌, ◌*◌, ◌/◌, ◌%◌, ◌^◌, ◌<◌, cond, eqb, ltb, List, [], ◌∷◌, Some, None, Option, sym, refl, ap, ◌∙◌, ⊎_elim, arith}
+use Rattle.std.proofs.Common.{◌≡◌, ℕ, ◌+◌, ◌*◌, ◌/◌, ◌%◌, ◌^◌, ◌<◌, eqb, ltb, List, [], ◌∷◌, Some, None, sym, refl, ap, ◌∙◌, ⊎_elim, arith}
 use mathlib.Core.HLevel.{is_prop→PathP}
 use native.Mathlib.Bridge.{le_prop}
-use Rattle.std.proofs.lemmas.Bool.{cond-true, cond-false, cases_Bool, eqb-true, eq-eqb, ltb-true}
+use Rattle.std.proofs.lemmas.Bool.{cond-true, cond-false, cases_Bool, eqb-true, ltb-true}
 use Rattle.u5.specs.declared.operand.Register.{Register}
 use Rattle.u5.specs.declared.operand.Immediate.{Immediate}
 use Rattle.u5.specs.declared.operand.Shift.{Shift}
@@ -11,7 +11,7 @@ use Rattle.u5.specs.declared.operation.Operation.TheVariants as o
 use Rattle.u5.specs.declared.instruction.Instruction.{Instruction}
 use Rattle.u5.specs.declared.instruction.Instruction.TheVariants.{LoadB, LoadH, LoadW, StoreB, StoreH, StoreW, Add, Mul, Div, Nor, MovI, CMov, In, Out, Read, Write, Halt}
 use Rattle.u5.specs.Operations.{opcode, coded_in, coded, every, unused}
-use Rattle.u5.specs.Words.{operation, encoded, three, two, one, bare, moved, register, immediate, shift, field_a, field_b, field_c, instruction, decoded_as, decoded, Unknown}
+use Rattle.u5.specs.Words.{operation, encoded, three, two, one, moved, register, immediate, shift, field_a, field_b, field_c, instruction, decoded_as, decoded, Unknown}
 use Rattle.u5.proofs.Tables.{each_operation}
 
 -- operands are known by their numbers

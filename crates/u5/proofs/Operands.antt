@@ -1,14 +1,13 @@
 -- Instructions by their operation and the numbers of their operands.
-use Rattle.std.proofs.Common.{◌≡◌, ℕ, ◌+◌, ◌*◌, ◌/◌, ◌%◌, ◌^◌, ◌<◌, ◌≤◌, List, [], ◌∷◌, sym, refl, ap, ◌∙◌, arith}
+use Rattle.std.proofs.Common.{◌≡◌, ℕ, ◌+◌, ◌*◌, ◌/◌, ◌%◌, ◌^◌, ◌<◌, ◌≤◌, List, [], ◌∷◌, refl, arith}
 use Rattle.u5.specs.declared.operand.Register.{Register}
 use Rattle.u5.specs.declared.operand.Immediate.{Immediate}
 use Rattle.u5.specs.declared.operand.Shift.{Shift}
 use Rattle.u5.specs.declared.operation.Operation.{Operation}
 use Rattle.u5.specs.declared.operation.Operation.TheVariants as o
-use Rattle.u5.specs.declared.operation.Slot.{Slot}
 use Rattle.u5.specs.declared.instruction.Instruction.{Instruction}
 use Rattle.u5.specs.declared.instruction.Instruction.TheVariants.{LoadB, LoadH, LoadW, StoreB, StoreH, StoreW, Add, Mul, Div, Nor, MovI, CMov, In, Out, Read, Write, Halt}
-use Rattle.u5.specs.Operations.{opcode, slots, three, two, one, moved}
+use Rattle.u5.specs.Operations.{slots, three, two, one, moved}
 use Rattle.u5.specs.Slots.{InRange, placed, parts}
 use Rattle.u5.specs.Words.{operation, values, encoded, bare}
 

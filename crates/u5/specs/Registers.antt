@@ -1,5 +1,5 @@
 -- The names that registers go by.
-use Rattle.std.specs.Prelude.{ℕ, List, [], ◌∷◌, Some, None, codes, Option, slice_index_or}
+use Rattle.std.specs.Prelude.{ℕ, List, [], ◌∷◌, codes, Option, slice_index_or}
 use Rattle.std.specs.List.{range_with_len}
 use Rattle.u5.specs.Tables.{called}
 

@@ -1,6 +1,6 @@
 -- The words that encode the instructions. From its top bit down an R word has five bits of opcode, six of A, six of B, six of C and nine unused;
 -- an I word has the five bits 10000, six bits of R, sixteen of I and five of S.
-use Rattle.std.specs.Prelude.{◌≡◌, ℕ, ◌+◌, ◌*◌, ◌/◌, ◌%◌, ◌^◌, ◌<◌, List, [], ◌∷◌, Some, None, Option, ◌≢◌}
+use Rattle.std.specs.Prelude.{ℕ, ◌+◌, ◌*◌, ◌/◌, ◌%◌, ◌^◌, List, [], ◌∷◌, Some, None, Option, ◌≢◌}
 use Rattle.std.proofs.Common.{arith}
 use Rattle.u5.specs.declared.operand.Register.{Register}
 use Rattle.u5.specs.declared.operand.Immediate.{Immediate}

@@ -2,5 +2,5 @@
 use Rattle.std.proofs.Common.{arith}
 use Rattle.disk_tests.proofs.last_sector.Goals as goal
 
-pub overflow-cast-result : goal.overflow-cast-result
-overflow-cast-result g c = omega (arith, c.count-count.ensures, (g.D.Readable.whole c.args.disk.now).few)
+pub overflow_cast-result : goal.overflow_cast-result
+overflow_cast-result g c = omega (arith, c.count-count.ensures, (g.D.Readable.whole c.args.disk.now).few)

@@ -1,5 +1,5 @@
 use Rattle.std.proofs.Common.{refl}
-use Rattle.station.specs.Views.{world, disk_of}
+use Rattle.station.specs.Views.{disk_of}
 use Rattle.station.specs.Histories.{started, fed_bytes, collected_bytes, tallied}
 use Rattle.histories.proofs.Recording.{run_recorded}
 use Rattle.histories.proofs.sit.Goals as goal

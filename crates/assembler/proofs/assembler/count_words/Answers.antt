@@ -1,4 +1,4 @@
-use Rattle.std.proofs.Common.{◌≡◌, ◌+◌, ◌∷◌, length, drop, Err, sym, refl, ap, ◌∙◌, arith}
+use Rattle.std.proofs.Common.{◌≡◌, ◌+◌, ◌∷◌, length, drop, Err, sym, ap, ◌∙◌, arith}
 use Rattle.std.proofs.lemmas.Result.{err_from_is_err_and}
 use Rattle.text.specs.Readers.{lines_left}
 use Rattle.text.proofs.Joins.{some_pieces, few_pieces}
@@ -15,20 +15,20 @@ loop-line-init c =
 
 -- the line that was handed out
 handed : (c : In-Some) → lines_left c.loop-line.lines ≡ c.in-Some.line.now ∷ lines_left c.line.new.self
-handed c = handed_on_line (lines_left c.loop-line.lines) (lines_left c.line.new.self) c.line.result (c.loop-line.count + 1) c.in-ok-line.field-0 c.in-Some.line c.line.ensures (sym c.on-line.ensures ∙ c.in-ok-line.was) c.in-Some.is
+handed c = handed_on_line (lines_left c.loop-line.lines) (lines_left c.line.new.self) c.line.result (c.loop-line.count + 1) c.in_ok-line.field-0 c.in-Some.line c.line.ensures (sym c.on_line.ensures ∙ c.in_ok-line.was) c.in-Some.is
 
-pub returns-in-err-on-line : goal.returns-in-err-on-line
-returns-in-err-on-line c =
-    let p = err_from_is_err_and c.from-residual-in-err-on-line.result c.from-residual-in-err-on-line.ensures.1 in
-    let f = fault_on_line c.read-line.result (c.loop-line.count + 1) c.in-err-on-line.field-0.0 (sym c.on-line-in-Some.ensures ∙ c.in-err-on-line.was) in
+pub returns-in_err-on_line : goal.returns-in_err-on_line
+returns-in_err-on_line c =
+    let p = err_from_is_err_and c.from_residual-in_err-on_line.result c.from_residual-in_err-on_line.ensures.1 in
+    let f = fault_on_line c.read_line.result (c.loop-line.count + 1) c.in_err-on_line.field-0.0 (sym c.on_line-in-Some.ensures ∙ c.in_err-on_line.was) in
     let left = c.line.new.self in
     p.1 ∙ ap Err (p.2 ∙ sym f.2)
-    ∙ bad_line c.loop-line.count c.in-Some.line.now (lines_left c.loop-line.lines) (lines_left left) (some_pieces 10 (drop left.at left.text.now)) (handed (goal.at.returns-in-err-on-line c).In-Some) f.0 (sym f.1 ∙ c.read-line.ensures)
+    ∙ bad_line c.loop-line.count c.in-Some.line.now (lines_left c.loop-line.lines) (lines_left left) (some_pieces 10 (drop left.at left.text.now)) (handed (goal.at.returns-in_err-on_line c).In-Some) f.0 (sym f.1 ∙ c.read_line.ensures)
     ∙ c.loop-line.invariant.0
 
 pub loop-line-preserved : goal.loop-line-preserved
 loop-line-preserved c =
     let left = c.line.new.self in
     let cut = handed (goal.at.loop-line-preserved c).In-Some in
-    let read = read_on_line c.read-line.result (c.loop-line.count + 1) c.in-ok-on-line.field-0 c.in-Some.line.now c.read-line.ensures (sym c.on-line-in-Some.ensures ∙ c.in-ok-on-line.was) in
-    (one_line c.loop-line.count c.in-Some.line.now (lines_left c.loop-line.lines) (lines_left left) (some_pieces 10 (drop left.at left.text.now)) cut c.in-ok-on-line.field-0 read ∙ c.loop-line.invariant.0, omega (arith, c.loop-line.invariant.1, ap length cut))
+    let read = read_on_line c.read_line.result (c.loop-line.count + 1) c.in_ok-on_line.field-0 c.in-Some.line.now c.read_line.ensures (sym c.on_line-in-Some.ensures ∙ c.in_ok-on_line.was) in
+    (one_line c.loop-line.count c.in-Some.line.now (lines_left c.loop-line.lines) (lines_left left) (some_pieces 10 (drop left.at left.text.now)) cut c.in_ok-on_line.field-0 read ∙ c.loop-line.invariant.0, omega (arith, c.loop-line.invariant.1, ap length cut))

@@ -18,13 +18,13 @@ module _ (c : In-Some) where
 pub append-end-requires : goal.append-end-requires
 append-end-requires c =
     let at = (goal.at.append-end-requires c).In-Some in
-    omega (arith, ap length c.to-be-bytes.ensures, word_room c.loop-next.invariant c.in-Some.line.now (lines_left c.line.new.self) (some at) (cut at) c.in-Ok-read-line.word c.in-Ok-read-line.ensures c.requires.1)
+    omega (arith, ap length c.to_be_bytes.ensures, word_room c.loop-next.invariant c.in-Some.line.now (lines_left c.line.new.self) (some at) (cut at) c.in-Ok-read_line.word c.in-Ok-read_line.ensures c.requires.room)
 
 pub loop-next-preserved : goal.loop-next-preserved
 loop-next-preserved c =
     let at = (goal.at.loop-next-preserved c).In-Some in
-    let put : Appended c.loop-next.out c.loop-next.end (four c.in-Ok-read-line.word) c.append-end.new.out c.append-end.result = subst (λ b. Appended c.loop-next.out c.loop-next.end b c.append-end.new.out c.append-end.result) c.to-be-bytes.ensures c.append-end.ensures in
-    word_more c.loop-next.invariant c.in-Some.line.now (lines_left c.line.new.self) (some at) (cut at) c.in-Ok-read-line.word _ _ c.in-Ok-read-line.ensures put
+    let put : Appended c.loop-next.out c.loop-next.end (four c.in-Ok-read_line.word) c.append-end.new.out c.append-end.result = subst (λ b. Appended c.loop-next.out c.loop-next.end b c.append-end.new.out c.append-end.result) c.to_be_bytes.ensures c.append-end.ensures in
+    word_more c.loop-next.invariant c.in-Some.line.now (lines_left c.line.new.self) (some at) (cut at) c.in-Ok-read_line.word _ _ c.in-Ok-read_line.ensures put
 
 pub unreachable-requires-in-Err : goal.unreachable-requires-in-Err
 unreachable-requires-in-Err c =

@@ -6,12 +6,12 @@ pub returns : goal.returns
 returns c =
     let words = c.args.words.now in
     let out = c.args.out.now in
-    let after = c.write-lines.new.out in
-    let end = c.write-lines.result in
-    let bytes : (i : ℕ) → get_or words i 0 < 256 = λ i. omega (arith, c.type-inv.words i) in
+    let after = c.write_lines.new.out in
+    let end = c.write_lines.result in
+    let bytes : (i : ℕ) → get_or words i 0 < 256 = λ i. omega (arith, c.type_inv.words i) in
     record {
-      lists = lists_all words out after end bytes c.write-lines.ensures (omega arith) (omega arith) (omega arith);
-      bound = omega (arith, c.write-lines.ensures.till, c.write-lines.ensures.size, listing_fits words out (omega arith));
-      reads_back = spells_all words out after end bytes c.write-lines.ensures;
-      assembles = within_all words out after end bytes c.write-lines.ensures (omega arith);
+      lists = lists_all words out after end bytes c.write_lines.ensures (omega arith) (omega arith) (omega arith);
+      bound = omega (arith, c.write_lines.ensures.till, c.write_lines.ensures.size, listing_fits words out (omega arith));
+      reads_back = spells_all words out after end bytes c.write_lines.ensures;
+      assembles = within_all words out after end bytes c.write_lines.ensures (omega arith);
     }

@@ -1,8 +1,8 @@
-use Rattle.std.proofs.Common.{◌≡◌, ℕ, ◌+◌, ◌*◌, ◌≤◌, List, [], ◌∷◌, ◌++◌, length, drop, sym, refl, ap, ◌∙◌, subst, append-nil, arith}
+use Rattle.std.proofs.Common.{◌≡◌, ◌+◌, ◌*◌, [], ◌∷◌, ◌++◌, drop, sym, ap, ◌∙◌, subst, append-nil, arith}
 use Rattle.assembler.specs.Listing.{listed, listing, words_at}
 use Rattle.assembler.specs.Writes.{Appended}
 use Rattle.assembler.proofs.Writing.{then}
-use Rattle.assembler.proofs.Rows.{word_at, words_more, words_none, listed_short, lines_more}
+use Rattle.assembler.proofs.Rows.{words_more, words_none, listed_short, lines_more}
 use Rattle.assembler.proofs.lister.write_lines.Goals as goal
 
 pub loop-k-preserved : goal.loop-k-preserved
@@ -10,15 +10,15 @@ loop-k-preserved c =
     let w = c.loop-k.invariant.0 in
     let xs = c.args.words.now in
     let i = 4 * c.loop-k.k in
-    let word = c.from-be-bytes-word.result in
+    let word = c.from_be_bytes-word.result in
     let step = words_more xs i (4 * (c.loop-k.k + 1)) (omega arith) (omega arith) in
     let whole : w.0 ++ listing (word ∷ words_at (drop (4 * (c.loop-k.k + 1)) xs)) ≡ listing (words_at xs) =
-    ap (λ n. w.0 ++ listing (n ∷ words_at (drop (4 * (c.loop-k.k + 1)) xs))) c.from-be-bytes-word.ensures
+    ap (λ n. w.0 ++ listing (n ∷ words_at (drop (4 * (c.loop-k.k + 1)) xs))) c.from_be_bytes-word.ensures
     ∙ ap (λ l. w.0 ++ listing l) (sym step)
     ∙ w.2
     in (
-      (w.0 ++ (listed word ++ (10 ∷ [])), then w.1 c.list-word-end.ensures, lines_more w.0 word (words_at (drop (4 * (c.loop-k.k + 1)) xs)) (listing (words_at xs)) whole),
-      omega (arith, c.loop-k.invariant.1, c.list-word-end.ensures.till, listed_short word),
+      (w.0 ++ (listed word ++ (10 ∷ [])), then w.1 c.list_word-end.ensures, lines_more w.0 word (words_at (drop (4 * (c.loop-k.k + 1)) xs)) (listing (words_at xs)) whole),
+      omega (arith, c.loop-k.invariant.1, c.list_word-end.ensures.till, listed_short word),
     )
 
 pub returns : goal.returns

@@ -1,4 +1,4 @@
-use Rattle.std.proofs.Common.{◌≡◌, ℕ, ◌+◌, ◌*◌, ◌≤◌, List, ◌++◌, length, drop}
+use Rattle.std.proofs.Common.{◌≡◌, ℕ, ◌*◌, ◌≤◌, List, ◌++◌, drop}
 use Rattle.assembler.specs.Listing.{words_at, listing}
 use Rattle.assembler.specs.Writes.{Appended}
 use Rattle.assembler.proofs.lister.write_lines.Given as goal

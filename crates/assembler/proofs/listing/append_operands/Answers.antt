@@ -1,4 +1,4 @@
-use Rattle.std.proofs.Common.{◌≡◌, ℕ, ◌+◌, ◌≤◌, List, [], ◌∷◌, ◌++◌, length, drop, sym, refl, ap, ◌∙◌, subst, append_assoc, append-nil, arith, length-append}
+use Rattle.std.proofs.Common.{◌≡◌, ◌+◌, ◌≤◌, ◌∷◌, ◌++◌, length, drop, sym, ap, ◌∙◌, subst, append_assoc, append-nil, arith, length-append}
 use Rattle.assembler.specs.Keywords.{slots}
 use Rattle.assembler.specs.Listing.{tail, operand_text}
 use Rattle.u5.specs.Slots.{part}
@@ -25,10 +25,13 @@ module _ (c : In-Some) where
 pub append-end-requires : goal.append-end-requires
 append-end-requires c = omega (arith, room (goal.at.append-end-requires c).In-Some)
 
-pub append-operand-end-requires : goal.append-operand-end-requires
-append-operand-end-requires c =
-    let same = ap (λ n. length (operand_text c.in-Some.slot.kind n)) c.part-of.ensures.value in
-    (c.part-of.ensures.bound, omega (arith, same, c.append-end.ensures.till, c.append-end.ensures.size, room (goal.at.append-operand-end-requires c).In-Some))
+pub append_operand-end-requires : goal.append_operand-end-requires
+append_operand-end-requires c =
+    let same = ap (λ n. length (operand_text c.in-Some.slot.kind n)) c.part_of.ensures.value in
+    record {
+      fits = c.part_of.ensures.bound;
+      room = omega (arith, same, c.append-end.ensures.till, c.append-end.ensures.size, room (goal.at.append_operand-end-requires c).In-Some);
+    }
 
 pub loop-slot-preserved : goal.loop-slot-preserved
 loop-slot-preserved c =
@@ -36,7 +39,7 @@ loop-slot-preserved c =
     let at = at_nth (slots c.args.keyword) c.loop-slot.k c.in-Some.slot (sym c.in-Some.ensures.place) in
     let t = operand_text c.in-Some.slot.kind (part c.in-Some.slot c.args.word) in
     let rest = tail (drop (c.loop-slot.k + 1) (slots c.args.keyword)) c.args.word in
-    let operand : Appended c.append-end.new.out c.append-end.result t c.append-operand-end.new.out c.append-operand-end.result = subst (λ n. Appended c.append-end.new.out c.append-end.result (operand_text c.in-Some.slot.kind n) c.append-operand-end.new.out c.append-operand-end.result) c.part-of.ensures.value c.append-operand-end.ensures in (
+    let operand : Appended c.append-end.new.out c.append-end.result t c.append_operand-end.new.out c.append_operand-end.result = subst (λ n. Appended c.append-end.new.out c.append-end.result (operand_text c.in-Some.slot.kind n) c.append_operand-end.new.out c.append_operand-end.result) c.part_of.ensures.value c.append_operand-end.ensures in (
       (w.0 ++ (9 ∷ t), then w.1 (then c.append-end.ensures operand), append_assoc w.0 (9 ∷ t) rest ∙ ap (λ l. w.0 ++ l) (sym (more (goal.at.loop-slot-preserved c).In-Some)) ∙ w.2),
       omega (arith, at.0),
     )
@@ -44,6 +47,6 @@ loop-slot-preserved c =
 pub returns : goal.returns
 returns c =
     let w = c.loop-slot.invariant.0 in
-    let none = tail_none (slots c.args.keyword) c.loop-slot.k c.args.word (sym c.in-default.ensures.place) in
+    let none = tail_none (slots c.args.keyword) c.loop-slot.k c.args.word (sym c.in_default.ensures.place) in
     let whole : w.0 ≡ tail (slots c.args.keyword) c.args.word = sym (append-nil w.0) ∙ ap (λ l. w.0 ++ l) (sym none) ∙ w.2 in
     subst (λ l. Appended c.args.out.now c.args.at l c.loop-slot.out c.loop-slot.end) whole w.1

@@ -1,4 +1,4 @@
-use Rattle.std.proofs.Common.{◌≡◌, ℕ, ◌+◌, ◌-◌, ◌≤◌, List, ◌++◌, length, drop}
+use Rattle.std.proofs.Common.{◌≡◌, ℕ, ◌-◌, ◌≤◌, List, ◌++◌, length, drop}
 use Rattle.assembler.specs.Keywords.{slots}
 use Rattle.assembler.specs.Listing.{tail}
 use Rattle.assembler.specs.Writes.{Appended}

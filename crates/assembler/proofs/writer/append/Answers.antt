@@ -7,8 +7,8 @@ returns c =
     let piece = c.args.piece.now in
     let out = c.args.out.now in
     let at = c.args.at in
-    let copied = c.copy-from-slice.new.self in
-    let is : copied ≡ piece = c.copy-from-slice.ensures.after in
+    let copied = c.copy_from_slice.new.self in
+    let is : copied ≡ piece = c.copy_from_slice.ensures.after in
     let within : at ≤ length out = omega (arith, c.requires) in
     record {
       size = search (rules, overwrites);

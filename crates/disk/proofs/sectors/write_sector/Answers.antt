@@ -4,4 +4,4 @@ use Rattle.disk.proofs.Rewriting.{copied_over}
 use Rattle.disk.proofs.sectors.write_sector.Goals as goal
 
 pub returns : goal.returns
-returns c = (omega arith, copied_over c.args.bytes.now c.args.sector _ c.args.block.now c.copy-from-slice.new.self (omega arith) (omega arith) c.copy-from-slice.ensures.after (search rules))
+returns c = (omega arith, copied_over c.args.bytes.now c.args.sector _ c.args.block.now c.copy_from_slice.new.self (omega arith) (omega arith) c.copy_from_slice.ensures.after (search rules))

@@ -1,4 +1,4 @@
-use Rattle.std.proofs.Common.{refl, ap, ◌∙◌}
+use Rattle.std.proofs.Common.{refl}
 use Rattle.station.specs.Machines.{took, no_input}
 use Rattle.station.proofs.Machines.{same_processor, same_machine}
 use Rattle.station.proofs.device.take.Goals as goal

@@ -4,5 +4,5 @@ use Rattle.text.proofs.number.read_number.Goals as goal
 
 pub returns : goal.returns
 returns c =
-    let read = c.read-digits.ensures in
-    record { reads = read.reads; bound = read.bound; cases = number_cases c.args.limit c.args.field.now c.read-digits.result (omega arith) read.reads }
+    let read = c.read_digits.ensures in
+    record { reads = read.reads; bound = read.bound; cases = number_cases c.args.limit c.args.field.now c.read_digits.result (omega arith) read.reads }

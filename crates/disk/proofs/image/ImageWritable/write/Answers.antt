@@ -5,7 +5,7 @@ use Rattle.disk.proofs.image.ImageWritable.write.Goals as goal
 
 pub returns : goal.returns
 returns c = record {
-  writes = image_written c.args.self.now.bytes.now c.args.sector c.args.block c.write-sector.result c.write-sector.new.bytes c.write-sector.ensures;
-  elsewhere = c.write-sector.ensures;
+  writes = image_written c.args.self.now.bytes.now c.args.sector c.args.block c.write_sector.result c.write_sector.new.bytes c.write_sector.ensures;
+  elsewhere = c.write_sector.ensures;
   lender = refl;
 }

@@ -6,5 +6,5 @@ use Rattle.std.proofs.lemmas.Bool.Decides.{Decides-eqb}
 
 pub returns : goal.returns
 returns c =
-    told_apart c.args.self c.args.other c.as-bytes.result.now c.as-bytes-2.result.now c.eq.result (c.as-bytes.ensures.value ∙ c.name.ensures) (c.as-bytes-2.ensures.value ∙ c.name-2.ensures)
-    (slice_eq-Decides Decides-eqb c.as-bytes.result.now c.as-bytes-2.result.now c.eq.result c.eq.ensures)
+    told_apart c.args.self c.args.other c.as_bytes.result.now c.as_bytes-2.result.now c.eq.result (c.as_bytes.ensures.value ∙ c.name.ensures) (c.as_bytes-2.ensures.value ∙ c.name-2.ensures)
+    (slice_eq-Decides Decides-eqb c.as_bytes.result.now c.as_bytes-2.result.now c.eq.result c.eq.ensures)

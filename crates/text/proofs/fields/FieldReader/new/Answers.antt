@@ -1,6 +1,6 @@
-use Rattle.std.proofs.Common.{◌≡◌, sym, ap, ◌∙◌, subst, arith}
+use Rattle.std.proofs.Common.{sym, ap, ◌∙◌, subst, arith}
 use Rattle.std.specs.List.{AllByRecursion}
-use Rattle.text.specs.Pieces.{joined, Lacks, pieces, left}
+use Rattle.text.specs.Pieces.{joined, Lacks}
 use Rattle.text.proofs.Joins.{pieces_join, pieces_lack, left_inside}
 use Rattle.text.proofs.fields.FieldReader.new.Goals as goal
 

@@ -1,4 +1,4 @@
-use Rattle.std.proofs.Common.{◌≡◌, ◌<◌, length, drop, sym, refl, ap, ◌∙◌, arith, length-drop}
+use Rattle.std.proofs.Common.{◌<◌, length, drop, refl, ap, arith, length-drop}
 use Rattle.std.proofs.lemmas.List.{drop_all}
 use Rattle.text.specs.Pieces.{pieces}
 use Rattle.text.proofs.Cuts.{Ends, inner_piece, last_piece}

@@ -1,4 +1,4 @@
-use Rattle.std.proofs.Common.{◌≡◌, ◌+◌, ◌%◌, Some, sym, refl, ap, ◌∙◌, subst}
+use Rattle.std.proofs.Common.{◌≡◌, ◌+◌, ◌%◌, Some, sym, ap, ◌∙◌, subst}
 use Rattle.u5.specs.Operations.{unused}
 use Rattle.u5.specs.Words.{operation, encoded, decoded_as, decoded}
 use Rattle.u5.proofs.Encodings.{coded_is, none_coded, restores}
@@ -9,8 +9,8 @@ unfolding decoded
 returns-in-Some c =
     let known = c.in-Some.ensures in
     record {
-      value = ap Some c.instruction-of.ensures ∙ ap (λ o. decoded_as o c.args.word) known;
-      cases = subst (λ i. c.args.word ≡ encoded i + c.args.word % unused (operation i)) (sym c.instruction-of.ensures) (restores c.in-Some.operation c.args.word (coded_is _ c.in-Some.operation (sym known)));
+      value = ap Some c.instruction_of.ensures ∙ ap (λ o. decoded_as o c.args.word) known;
+      cases = subst (λ i. c.args.word ≡ encoded i + c.args.word % unused (operation i)) (sym c.instruction_of.ensures) (restores c.in-Some.operation c.args.word (coded_is _ c.in-Some.operation (sym known)));
     }
 
 pub returns-in-None : goal.returns-in-None

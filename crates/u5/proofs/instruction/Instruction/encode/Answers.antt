@@ -1,4 +1,4 @@
-use Rattle.std.proofs.Common.{◌≡◌, ◌%◌, ap, ◌∙◌}
+use Rattle.std.proofs.Common.{◌%◌, ap, ◌∙◌}
 use Rattle.u5.specs.Operations.{unused}
 use Rattle.u5.specs.Words.{operation, decoded}
 use Rattle.u5.proofs.Encodings.{decodes, clears}
