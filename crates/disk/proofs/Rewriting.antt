@@ -43,7 +43,7 @@ module _ (before : List ℕ) (s : ℕ) (block after : List ℕ) (below : s < sec
       (cut_length after ∙ count_same ∙ sym (cut_length before) ∙ sym (length-set (cut before) s block))
       (λ k d within.
       let in_after : k < sector_count after = omega (arith, cut_length after) in
-      let in-before : k < sector_count before = omega (arith, count_same) in
+      let in_before : k < sector_count before = omega (arith, count_same) in
       cut_at after k d in_after
       ∙ ⊎_elim
       (λ (same : k ≡ s).
@@ -51,7 +51,7 @@ module _ (before : List ℕ) (s : ℕ) (block after : List ℕ) (below : s < sec
       ∙ w.holds
       ∙ sym (get_or-set_same (cut before) s block d (omega (arith, cut_length before)))
       ∙ ap (λ n. get_or (set (cut before) s block) n d) (sym same))
-      (λ (ne : k ≢ s). other_sector_same k ne ∙ sym (cut_at before k d in-before) ∙ sym (get_or-set_other (cut before) s k block d ne))
+      (λ (ne : k ≢ s). other_sector_same k ne ∙ sym (cut_at before k d in_before) ∙ sym (get_or-set_other (cut before) s k block d ne))
       (cases_eq k s))
 
 -- A block that was copied over the part of a sector.

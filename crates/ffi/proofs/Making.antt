@@ -22,9 +22,9 @@ begun kind given s m d k output zeros unstarted =
 pub made_more : {kind : Kind} {given : List ℕ} {b b₁ : Bench} (b₂ : Bench) (calls : List Call) (replies : List Reply) (n : ℕ) (call : Call) (reply : Reply) → n < length calls → n < length replies
     → Serves kind given b (take n calls) (take n replies) b₁ → Answers kind (get_or calls n call) given b₁ reply b₂
     → Serves kind given b (take (n + 1) calls) (take (n + 1) (set replies n reply)) b₂
-made_more {kind} {given} {b} b₂ calls replies n call reply in-calls in-replies so_far answers =
-    subst (λ cs. Serves kind given b cs (take (n + 1) (set replies n reply)) b₂) (sym (take_more calls n call in-calls))
-    (subst (λ rs. Serves kind given b (take n calls ++ (get_or calls n call ∷ [])) rs b₂) (sym (take_more_set replies n reply in-replies)) (one_made so_far answers))
+made_more {kind} {given} {b} b₂ calls replies n call reply in_calls in_replies so_far answers =
+    subst (λ cs. Serves kind given b cs (take (n + 1) (set replies n reply)) b₂) (sym (take_more calls n call in_calls))
+    (subst (λ rs. Serves kind given b (take n calls ++ (get_or calls n call ∷ [])) rs b₂) (sym (take_more_set replies n reply in_replies)) (one_made so_far answers))
 
 -- The replies past it are as they were.
 pub rest_more : (before replies : List Reply) (n : ℕ) (reply : Reply) → drop n replies ≡ drop n before → drop (n + 1) (set replies n reply) ≡ drop (n + 1) before

@@ -1,6 +1,6 @@
 // What the next instruction comes to: this only reads.
 ghost use Rattle.std.specs.Prelude.{◌≡◌, ◌+◌, ◌^◌, ◌<◌, length, slice_index};
-ghost use Rattle.processor.specs.Effects.{moved, load as load-effect, store as store-effect, effect};
+ghost use Rattle.processor.specs.Effects.{moved, load as load_effect, store as store_effect, effect};
 ghost use Rattle.processor.specs.Widths.{size};
 ghost use Rattle.processor.specs.Words.{low, moved_on};
 ghost use Rattle.processor.specs.Requests.{Asks, Decides, processor, misplaced};
@@ -24,7 +24,7 @@ impl Registers {
     }
 
     fn load(&self, memory: &[u8], width: Width, a: Register, at: u32) -> Request
-        ensures { Asks (λ p _. load-effect (size width) a at p) (moved (processor self.now memory.now)) result }
+        ensures { Asks (λ p _. load_effect (size width) a at p) (moved (processor self.now memory.now)) result }
     {
         let at = at as usize;
         if at + width.size() > memory.len() {
@@ -37,7 +37,7 @@ impl Registers {
     }
 
     fn store(&self, memory: &[u8], width: Width, a: Register, at: u32) -> Request
-        ensures { Asks (λ p _. store-effect (size width) a at p) (moved (processor self.now memory.now)) result }
+        ensures { Asks (λ p _. store_effect (size width) a at p) (moved (processor self.now memory.now)) result }
     {
         let at = at as usize;
         if let Some(ending) = misplaced(memory, at, width.size()) {

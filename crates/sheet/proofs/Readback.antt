@@ -156,18 +156,18 @@ either c letter x y = cond (eqb c letter) x y
 
 -- a line with this letter, or another
 by_test : (c letter : ℕ) (fs : List (List ℕ)) (m : Mark) (here past : Result Mark FieldFault) → either c letter here past ≡ Ok m → (here ≡ Ok m → Tells ((letter ∷ []) ∷ fs) m) → (past ≡ Ok m → Tells ((c ∷ []) ∷ fs) m) → Tells ((c ∷ []) ∷ fs) m
-by_test c letter fs m here past is yes-so other-so =
+by_test c letter fs m here past is yes_so other_so =
     ⊎_elim
-    (λ t. subst (λ (x : ℕ). Tells ((x ∷ []) ∷ fs) m) (sym (eqb-true c letter t)) (yes-so (sym (cond-true (eqb c letter) here past t) ∙ is)))
-    (λ f. other-so (sym (cond-false (eqb c letter) here past f) ∙ is))
+    (λ t. subst (λ (x : ℕ). Tells ((x ∷ []) ∷ fs) m) (sym (eqb-true c letter t)) (yes_so (sym (cond-true (eqb c letter) here past t) ∙ is)))
+    (λ f. other_so (sym (cond-false (eqb c letter) here past f) ∙ is))
     (cases_Bool (eqb c letter))
 
 letter_ok : (c : ℕ) (fs : List (List ℕ)) (m : Mark) → by_letter c fs ≡ Ok m → Tells ((c ∷ []) ∷ fs) m
 letter_ok c fs m is =
     by_test c 82 fs m (word_mark fs) _ is (word_ok fs m)
-    (λ past-r. by_test c 77 fs m (byte_mark fs) _ past-r (byte_ok fs m)
-    (λ past-m. by_test c 68 fs m (stored_mark fs) _ past-m (stored_ok fs m)
-    (λ past-d. by_test c 69 fs m (ends_mark fs) _ past-d (ends_ok fs m) (λ past-e. apart past-e))))
+    (λ past_r. by_test c 77 fs m (byte_mark fs) _ past_r (byte_ok fs m)
+    (λ past_m. by_test c 68 fs m (stored_mark fs) _ past_m (stored_ok fs m)
+    (λ past_d. by_test c 69 fs m (ends_mark fs) _ past_d (ends_ok fs m) (λ past_e. apart past_e))))
 
 pub line_tells : (line : List ℕ) (m : Mark) → line_mark line ≡ Ok m → Tells (pieces 9 line) m
 line_tells line m is =

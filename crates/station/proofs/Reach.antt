@@ -44,10 +44,10 @@ Going s n m out = After s n (at m.processor m.disk.sectors m.console.waiting out
 
 module _ (kind : Kind) {s : State} (before : List ℕ) where
   step_going : {n : ℕ} {m m' : Machine} → Going s n m (before ++ m.console.printed) → Step kind (asks m) m m' → Going s (suc n) m' (before ++ m'.console.printed)
-  step_going r (went does p-is disk-is console-is) = then r (rw does (rw (← p-is, disk-is, console-is) refl))
-  step_going r (took does taken p-is disk-is) = then r (rw (does, taken.first_waited) (rw (← p-is, disk-is, taken.printed_same) refl))
-  step_going r (printed does put p-is disk-is) = then r (rw does (rw (← p-is, disk-is, put.printed_last, put.waiting_same, append_assoc) refl))
-  step_going r (wrote does written p-is console-is) = then r (rw does (rw (← p-is, written.holds, console-is) refl))
+  step_going r (went does p_is disk_is console_is) = then r (rw does (rw (← p_is, disk_is, console_is) refl))
+  step_going r (took does taken p_is disk_is) = then r (rw (does, taken.first_waited) (rw (← p_is, disk_is, taken.printed_same) refl))
+  step_going r (printed does put p_is disk_is) = then r (rw does (rw (← p_is, disk_is, put.printed_last, put.waiting_same, append_assoc) refl))
+  step_going r (wrote does written p_is console_is) = then r (rw does (rw (← p_is, written.holds, console_is) refl))
 
   steps_going : {n : ℕ} {m : Machine} {k : ℕ} {m' : Machine} → Going s n m (before ++ m.console.printed) → Steps kind m k m' → Going s (n + k) m' (before ++ m'.console.printed)
   steps_going r no_step = rw add-zero r

@@ -6,16 +6,16 @@ use Rattle.text.specs.Pieces.{pieces, left}
 
 -- a text with no mark is one piece
 whole : (m : ℕ) (xs : List ℕ) → ((k : ℕ) → k < length xs → get_or xs k 0 ≡ m → ⊥) → pieces m xs ≡ xs ∷ []
-whole m [] no-mark = refl
-whole m (c ∷ xs) no-mark =
-    rw (ne_eqb c m (no-mark 0 (omega arith)), whole m xs (λ k h. no-mark (suc k) (omega arith)))
+whole m [] no_mark = refl
+whole m (c ∷ xs) no_mark =
+    rw (ne_eqb c m (no_mark 0 (omega arith)), whole m xs (λ k h. no_mark (suc k) (omega arith)))
 
 -- a text with a mark at n, and none before
 before : (m n : ℕ) (xs : List ℕ) → n < length xs → ((k : ℕ) → k < n → get_or xs k 0 ≡ m → ⊥) → get_or xs n 0 ≡ m → pieces m xs ≡ take n xs ∷ pieces m (drop (suc n) xs)
-before m n [] h no-mark e = absurd (omega arith)
-before m zero (c ∷ xs) h no-mark e = rw (eq-eqb c m e)
-before m (suc n) (c ∷ xs) h no-mark e =
-    rw (ne_eqb c m (no-mark 0 (omega arith)), before m n xs (omega arith) (λ k l. no-mark (suc k) (omega arith)) e)
+before m n [] h no_mark e = absurd (omega arith)
+before m zero (c ∷ xs) h no_mark e = rw (eq-eqb c m e)
+before m (suc n) (c ∷ xs) h no_mark e =
+    rw (ne_eqb c m (no_mark 0 (omega arith)), before m n xs (omega arith) (λ k l. no_mark (suc k) (omega arith)) e)
 
 -- what `find` says of the place where a piece ends
 pub record Ends (m : ℕ) (text : List ℕ) (at end : ℕ) : Type 0 where
