@@ -1,5 +1,5 @@
+// Tests of the overlay, by functions over any disks.
 #![tactic(auto)]
 
-// Tests of the overlay, by functions over any disks.
 #[cfg(test)]
 mod overlays;
