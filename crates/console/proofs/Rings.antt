@@ -3,7 +3,7 @@ use Rattle.std.proofs.Common.{◌≡◌, ℕ, ◌+◌, ◌-◌, ◌<◌, ◌≤�
 use Rattle.std.specs.List.{remove}
 use Rattle.std.specs.declared.collections.VecDeque.{VecDeque}
 use Rattle.std.specs.declared.alloc.Global.{Global}
-use Rattle.std.proofs.lemmas.List.{drop_more}
+use Rattle.std.proofs.lemmas.List.{nil_from_length, drop_more}
 use Rattle.console.specs.Consoles.{Takes, Pulls}
 use Rattle.console.specs.Kinds.{typed, typed_kind}
 
@@ -11,16 +11,13 @@ use Rattle.console.specs.Kinds.{typed, typed_kind}
 abbrev pub Shorter : List ℕ → Option ℕ → List ℕ → Type 0
 Shorter xs r ys = MatchOption r ((xs ≡ []) × (ys ≡ xs)) (λ y. xs ≡ y ∷ ys)
 
-none_empty : (xs : List ℕ) → (0 < length xs → ⊥) → xs ≡ []
-none_empty [] none = refl
-none_empty (x ∷ xs) none = absurd (none (omega arith))
-
 -- what `remove` says of the first place
 pub first_removed : (q q' : VecDeque ℕ Global) (r : Option ℕ)
     → IfSome r (λ y. y ≡ get_or (deque_items q) 0 y) → OnSome r (deque_items q' ≡ remove (deque_items q) 0)
     → IsSome r ↔ (0 < deque_len q) → IfNone r (q' ≡ q) → Shorter (deque_items q) r (deque_items q')
 first_removed q q' None first rest some same =
-    (none_empty (deque_items q) (λ more. let is : false ≡ true = some.1 (omega (arith, q.ok.0)) in cc), ap deque_items same)
+    let none : 0 < length (deque_items q) → ⊥ = λ more. let is : false ≡ true = some.1 (omega (arith, q.ok.0)) in cc in
+    (nil_from_length (deque_items q) (omega arith), ap deque_items same)
 first_removed q q' (Some y) first rest some same =
     drop_more (deque_items q) 0 y (omega (arith, q.ok.0, some.0 refl))
     ∙ ap (λ z. z ∷ remove (deque_items q) 0) (sym first)
