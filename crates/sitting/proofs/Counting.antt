@@ -1,6 +1,6 @@
 -- What a history of a sitting adds up to.
 use Rattle.std.proofs.Common.{◌≡◌, ℕ, ◌+◌, ◌≤◌, sym, subst, arith}
-use Rattle.sitting.specs.Accounts.{Account}
+use Rattle.sitting.specs.Account.{Account}
 use Rattle.sitting.specs.Histories.{History, begun, drew, not_drawn, gave, not_given}
 
 -- what is used and given back was drawn, and what is used and left was granted

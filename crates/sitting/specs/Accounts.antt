@@ -1,20 +1,11 @@
--- What a sitting has, and what each call does with it.
+-- What each call does with a sitting.
 use Rattle.std.specs.Prelude.{◌≡◌, ℕ, ◌+◌, ◌<◌, ◌≤◌, Ok, Err, Result}
+use Rattle.sitting.specs.Account.{Account}
 use Rattle.sitting.specs.declared.token.Sitting.{Sitting}
 use Rattle.sitting.specs.declared.refusal.OpenRefusal.{OpenRefusal}
 use Rattle.sitting.specs.declared.refusal.OpenRefusal.TheVariants.{NoCandidate, NoGrant}
 use Rattle.sitting.specs.declared.refusal.DrawRefusal.{DrawRefusal}
 use Rattle.sitting.specs.declared.refusal.GiveBackRefusal.{GiveBackRefusal}
-
--- A candidate's instructions: those granted are used, that is drawn and not given back, or left to draw.
-pub record Account : Type 0 where
-  pub candidate : ℕ
-  pub grant : ℕ
-  pub used : ℕ
-  pub left : ℕ
-
-abbrev pub account : Sitting → Account
-account s = record { candidate = s.candidate; grant = s.grant; used = s.used; left = s.left }
 
 -- an opened sitting has used nothing
 pub record Opened (candidate grant : ℕ) (after : Account) : Type 0 where
@@ -27,7 +18,7 @@ pub record Opened (candidate grant : ℕ) (after : Account) : Type 0 where
 
 -- candidate 0 is refused, and then grant 0
 abbrev pub Opens : ℕ → ℕ → Result Sitting OpenRefusal → Type 0
-Opens candidate grant (Ok s) = Opened candidate grant (account s)
+Opens candidate grant (Ok s) = Opened candidate grant s
 Opens candidate grant (Err NoCandidate) = candidate ≡ 0
 Opens candidate grant (Err NoGrant) = (0 < candidate) × (grant ≡ 0)
 

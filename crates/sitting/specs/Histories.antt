@@ -2,7 +2,8 @@
 use Rattle.std.specs.Prelude.{◌≡◌, ℕ, ◌+◌, ◌≤◌, Ok, Err}
 use Rattle.sitting.specs.declared.refusal.DrawRefusal.{DrawRefusal}
 use Rattle.sitting.specs.declared.refusal.GiveBackRefusal.{GiveBackRefusal}
-use Rattle.sitting.specs.Accounts.{Account, Opened, Draws, GivesBack}
+use Rattle.sitting.specs.Account.{Account}
+use Rattle.sitting.specs.Accounts.{Opened, Draws, GivesBack}
 
 -- The calls on a sitting since it was opened, refused ones among them: how much all draws drew, and all give-backs gave.
 pub data History : (drawn given : ℕ) → Account → Type 0 where

@@ -1,3 +1,4 @@
 pub mod Numbers
+pub mod Account
 pub mod Accounts
 pub mod Histories

@@ -1,6 +1,6 @@
 // What can be done with a sitting.
 ghost use Rattle.std.specs.Prelude.{◌≡◌, ℕ};
-ghost use Rattle.sitting.specs.Accounts.{account, Opens, Draws, GivesBack};
+ghost use Rattle.sitting.specs.Accounts.{Opens, Draws, GivesBack};
 ghost use Rattle.sitting.specs.Histories.{Counts};
 
 use crate::refusal::{DrawRefusal, GiveBackRefusal, OpenRefusal};
@@ -27,7 +27,7 @@ pub fn open(candidate: u16, grant: u32) -> Result<Sitting, OpenRefusal>
 impl Sitting {
     // Takes instructions from what is left.
     pub fn draw(&mut self, count: u32) -> Result<(), DrawRefusal>
-        ensures { Draws (account self.old) count result (account self.new) }
+        ensures { Draws self.old count result self.new }
     {
         if count > self.left {
             return Err(DrawRefusal::MoreThanLeft);
@@ -39,7 +39,7 @@ impl Sitting {
 
     // Returns instructions that were drawn and not executed.
     pub fn give_back(&mut self, count: u32) -> Result<(), GiveBackRefusal>
-        ensures { GivesBack (account self.old) count result (account self.new) }
+        ensures { GivesBack self.old count result self.new }
     {
         if count > self.used {
             return Err(GiveBackRefusal::MoreThanUsed);
@@ -51,7 +51,7 @@ impl Sitting {
 
     // How many instructions are left to draw.
     pub fn left(&self) -> u32
-        ensures { result ≡ (account self.now).left }
+        ensures { result ≡ self.now.left }
     {
         self.grant - self.used
     }
@@ -59,7 +59,7 @@ impl Sitting {
     // Ends the sitting with its points.
     pub fn settle(self, points: u32) -> Settled
         ensures value { result ≡ record { candidate = self.candidate; used = self.used; points = points } }
-        ensures counts { Counts (account self) result.used }
+        ensures counts { Counts self result.used }
     {
         let Sitting {
             candidate,
@@ -77,7 +77,7 @@ impl Sitting {
     // Ends the sitting without points.
     pub fn void(self) -> Voided
         ensures value { result ≡ record { candidate = self.candidate; used = self.used } }
-        ensures counts { Counts (account self) result.used }
+        ensures counts { Counts self result.used }
     {
         let Sitting {
             candidate,

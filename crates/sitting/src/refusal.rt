@@ -2,7 +2,7 @@
 ghost use Rattle.std.specs.Prelude.{◌≡◌};
 ghost use Rattle.sitting.specs.Numbers.{open_refusal_number, draw_refusal_number, give_back_refusal_number};
 
-#[derive(Clone, Copy)]
+#[derive(Clone, Copy, PartialEq, Eq, Debug)]
 pub enum OpenRefusal {
     // the candidate is 0
     NoCandidate,
@@ -10,12 +10,12 @@ pub enum OpenRefusal {
     NoGrant,
 }
 
-#[derive(Clone, Copy)]
+#[derive(Clone, Copy, PartialEq, Eq, Debug)]
 pub enum DrawRefusal {
     MoreThanLeft,
 }
 
-#[derive(Clone, Copy)]
+#[derive(Clone, Copy, PartialEq, Eq, Debug)]
 pub enum GiveBackRefusal {
     MoreThanUsed,
 }

@@ -1,5 +1,5 @@
 // The token of a sitting, and the records that end one.
-ghost use Rattle.std.specs.Prelude.{◌≡◌, ◌+◌};
+use std::marker::Model;
 
 // A sitting that is open. It is not `Drop`: only `settle` and `void` take it apart.
 pub struct Sitting {
@@ -7,11 +7,21 @@ pub struct Sitting {
     pub(crate) grant: u32,
     pub(crate) used: u32,
     pub(crate) left: u32,
-    ghost balanced: { used + left ≡ grant },
+}
+
+// It is seen as its account.
+impl Model for Sitting {
+    ghost use Rattle.sitting.specs.Account.{Account, account, Balanced};
+
+    ghost Value = { Account };
+
+    ghost view = { account };
+
+    ghost invariant = { Balanced };
 }
 
 // What a settled sitting leaves.
-#[derive(Clone, Copy)]
+#[derive(Clone, Copy, PartialEq, Eq, Debug)]
 pub struct Settled {
     pub candidate: u16,
     pub used: u32,
@@ -19,7 +29,7 @@ pub struct Settled {
 }
 
 // What a voided sitting leaves.
-#[derive(Clone, Copy)]
+#[derive(Clone, Copy, PartialEq, Eq, Debug)]
 pub struct Voided {
     pub candidate: u16,
     pub used: u32,

@@ -1,7 +1,5 @@
-use Rattle.std.proofs.Common.{refl}
-use Rattle.sitting.specs.Accounts.{account}
 use Rattle.sitting.proofs.Counting.{counts}
 use Rattle.sitting.proofs.token.Sitting.void.Goals as goal
 
-pub returns : goal.returns
-returns c = record { value = refl; counts = counts (account c.args.self) }
+pub returns-clause-counts : goal.returns-clause-counts
+returns-clause-counts c = rw (← c.self.view_is) (counts _)
