@@ -1,10 +1,10 @@
 // The answer text: read, assembled, listed, and the listing assembled again.
-use crate::exam::examine;
+use crate::folder::HandIn;
 use crate::words::{count_lines, say_fault};
 use assembler::assembler::{AssembleRefusal, assemble};
 use assembler::lister::list;
 use sitting::token::Sitting;
-use std::{fs, io};
+use std::io;
 
 // The most words that a text can spell, and the longest listing of them, in bytes.
 const WORDS: usize = 13312;
@@ -28,17 +28,15 @@ fn read_back(rt: &HostRuntime, words: &[u8]) -> io::Result<()> {
     let size = match list(words, &mut listing) {
         Ok(size) => size,
         Err(refusal) => {
-            let number = refusal.number();
-            return println!(rt; "refused {number}: the words can't be listed");
+            return println!(rt; "refused {}: the words can't be listed", refusal.number());
         }
     };
-    let text = &listing[0..size];
-    let lines = count_lines(text);
-    println!(rt; "listed: lines {lines}, bytes {size}")?;
+    let text = &listing[..size];
+    println!(rt; "listed: lines {}, bytes {size}", count_lines(text))?;
     let mut again = [0u8; WORDS];
     match assemble(text, &mut again) {
         Ok(count) => {
-            let same = if &again[0..count] == words {
+            let same = if &again[..count] == words {
                 "the same words"
             } else {
                 "other words"
@@ -49,44 +47,33 @@ fn read_back(rt: &HostRuntime, words: &[u8]) -> io::Result<()> {
     }
 }
 
-fn mark_text(
-    rt: &HostRuntime,
-    folder: &str,
-    script: &[u8],
-    sitting: &mut Sitting,
-    text: &[u8],
-) -> io::Result<Option<u32>> {
-    let bytes = text.len();
-    let lines = count_lines(text);
-    println!(rt; "answer.txt: bytes {bytes}, lines {lines}")?;
-    let mut words = [0u8; WORDS];
-    match assemble(text, &mut words) {
-        Ok(count) => {
-            let number = count / 4;
-            println!(rt; "assembled: words {number}, bytes {count}")?;
-            read_back(rt, &words[0..count])?;
-            examine(rt, folder, script, sitting, &words[0..count])
-        }
-        Err(refusal) => {
-            say_refused(rt, refusal)?;
-            Ok(None)
+impl HandIn<'_> {
+    fn mark_text(
+        &self,
+        rt: &HostRuntime,
+        sitting: &mut Sitting,
+        text: &[u8],
+    ) -> io::Result<Option<u32>> {
+        println!(rt; "answer.txt: bytes {}, lines {}", text.len(), count_lines(text))?;
+        let mut words = [0u8; WORDS];
+        match assemble(text, &mut words) {
+            Ok(count) => {
+                println!(rt; "assembled: words {}, bytes {count}", count / 4)?;
+                read_back(rt, &words[..count])?;
+                self.examine(rt, sitting, &words[..count])
+            }
+            Err(refusal) => {
+                say_refused(rt, refusal)?;
+                Ok(None)
+            }
         }
     }
-}
 
-// The points of the hand-in, or none where something was refused on the way.
-pub(crate) fn mark(
-    rt: &HostRuntime,
-    folder: &str,
-    script: &[u8],
-    sitting: &mut Sitting,
-) -> io::Result<Option<u32>> {
-    let path = format!(in rt.alloc(); "{folder}/answer.txt")?;
-    match fs::read(rt, path.as_str()) {
-        Ok(text) => mark_text(rt, folder, script, sitting, text.as_slice()),
-        Err(e) => {
-            println!(rt; "answer.txt can't be read: {e}")?;
-            Ok(None)
+    // The points of the hand-in, or none where something was refused on the way.
+    pub(crate) fn mark(&self, rt: &HostRuntime, sitting: &mut Sitting) -> io::Result<Option<u32>> {
+        match self.read(rt, "answer.txt")? {
+            Some(text) => self.mark_text(rt, sitting, text.as_slice()),
+            None => Ok(None),
         }
     }
 }

@@ -3,9 +3,11 @@
 
 mod answer;
 mod exam;
+mod folder;
 mod record;
 mod words;
 
+use folder::HandIn;
 use sitting::calls::open;
 use std::io;
 
@@ -16,12 +18,12 @@ const GRANT: u32 = 1_000_000;
 pub fn hand_in(rt: &HostRuntime, folder: &str, candidate: u16, script: &[u8]) -> io::Result<()> {
     match open(candidate, GRANT) {
         Ok(mut sitting) => {
-            let marked = answer::mark(rt, folder, script, &mut sitting);
+            let marked = HandIn { folder, script }.mark(rt, &mut sitting);
             record::finish(rt, sitting, marked)
         }
-        Err(refusal) => {
-            let number = refusal.number();
-            println!(rt; "refused {number}: a candidate has a number from 1 to 65535")
-        }
+        Err(refusal) => println!(rt;
+            "refused {}: a candidate has a number from 1 to 65535",
+            refusal.number()
+        ),
     }
 }

@@ -1,5 +1,5 @@
 // The record that a sitting leaves.
-use sitting::token::Sitting;
+use sitting::token::{Settled, Sitting, Voided};
 use std::io;
 
 // Settles the sitting of a hand-in that got points, and voids any other.
@@ -10,15 +10,15 @@ pub(crate) fn finish(
 ) -> io::Result<()> {
     match marked {
         Ok(Some(points)) => {
-            let settled = sitting.settle(points);
-            let candidate = settled.candidate;
-            let used = settled.used;
+            let Settled {
+                candidate,
+                used,
+                points,
+            } = sitting.settle(points);
             println!(rt; "settled: candidate {candidate}, instructions {used}, points {points}")
         }
         Ok(None) => {
-            let voided = sitting.void();
-            let candidate = voided.candidate;
-            let used = voided.used;
+            let Voided { candidate, used } = sitting.void();
             println!(rt; "voided: candidate {candidate}, instructions {used}")
         }
         Err(e) => {
