@@ -1,5 +1,5 @@
 // The 17 operations: how each is spelled, its opcode, and where its operands stand in a word.
-ghost use Rattle.std.specs.Prelude.{◌≡◌, ◌<◌, MatchOption, ◌≢◌};
+ghost use Rattle.std.specs.Prelude.{◌≡◌, ◌<◌, All, MatchOption, ◌≢◌};
 ghost use Rattle.u5.specs.Operations.{spelling, opcode, slots, unused, named, coded};
 
 #[derive(Clone, Copy)]
@@ -133,9 +133,10 @@ impl Operation {
         }
     }
 
-    // The places of the operands, in order.
+    // The places of the operands, in order. That each weighs stands here: a static holds no struct with a ghost field.
     pub fn slots(self) -> &'static [Slot]
-        ensures { result.now ≡ slots self }
+        ensures value { result.now ≡ slots self }
+        ensures weigh { All (λ s. 0 < s.weight) result.now }
     {
         match self {
             Operation::LoadB
