@@ -1,8 +1,25 @@
 -- Pieces of a text: one step of a reader.
-use Rattle.std.proofs.Common.{◌≡◌, ℕ, zero, suc, ◌+◌, ◌-◌, ◌<◌, ◌≤◌, true, false, leb, List, [], ◌∷◌, length, get_or, take, drop, sym, refl, ap, ◌∙◌, ⊎_elim, arith, length-drop}
+use Rattle.std.proofs.Common.{◌≡◌, ℕ, zero, suc, not, eqb, Some, None, ◌+◌, ◌-◌, ◌<◌, ◌≤◌, true, false, leb, List, [], ◌∷◌, length, get_or, take, drop, sym, refl, ap, ◌∙◌, ⊎_elim, arith, length-drop}
+use Rattle.std.specs.List.{position, position_or_len}
+use Rattle.std.proofs.lemmas.List.Sums.{prefix_len_passes}
+use Rattle.std.proofs.lemmas.Bool.Decides.{nat_tests}
 use Rattle.std.proofs.lemmas.List.{get_or-drop, drop-drop, take_all}
 use Rattle.std.proofs.lemmas.Bool.{eq-eqb, ne_eqb, le-leb, lt-leb, cases_lt}
 use Rattle.text.specs.Pieces.{pieces, left}
+
+-- no place that `position` passed over holds the mark
+before_first : (m : ℕ) (text : List ℕ) (at k : ℕ) → at ≤ k → k < at + position_or_len (λ c. eqb c m) (drop at text) → get_or text k 0 ≡ m → ⊥
+before_first m text at k h l is =
+    let n = k - at in
+    let place : at + n ≡ k = omega arith in
+    let passes = prefix_len_passes (λ c. not (eqb c m)) (drop at text) n 0 (omega arith) in
+    grind (arith, nat_tests, passes, get_or-drop at text n 0)
+
+pub before_Some : (m : ℕ) (text : List ℕ) (at n : ℕ) → position (λ c. eqb c m) (drop at text) ≡ Some n → (k : ℕ) → at ≤ k → k < at + n → get_or text k 0 ≡ m → ⊥
+before_Some m text at n e k h l = before_first m text at k h (grind arith)
+
+pub before_None : (m : ℕ) (text : List ℕ) (at : ℕ) → position (λ c. eqb c m) (drop at text) ≡ None → (k : ℕ) → at ≤ k → k < length text → get_or text k 0 ≡ m → ⊥
+before_None m text at e k h l = before_first m text at k h (grind (arith, nat_tests, length-drop at text))
 
 -- a text with no mark is one piece
 whole : (m : ℕ) (xs : List ℕ) → ((k : ℕ) → k < length xs → get_or xs k 0 ≡ m → ⊥) → pieces m xs ≡ xs ∷ []

@@ -1,7 +1,8 @@
 -- One turn of a loop over digits, and what the tests say of a field.
-use Rattle.std.proofs.Common.{◌≡◌, ℕ, ◌+◌, ◌-◌, ◌*◌, ◌<◌, ◌≤◌, true, false, ◌&&◌, eqb, ltb, ◌⊎◌, List, [], ◌∷◌, length, get_or, drop, Ok, Err, inl, inr, arith}
+use Rattle.std.proofs.Common.{◌≡◌, ℕ, ◌+◌, ◌-◌, ◌*◌, ◌<◌, ◌≤◌, true, false, ◌&&◌, ltb, ◌⊎◌, List, [], ◌∷◌, length, get_or, drop, Ok, Err, inl, inr, refl, arith}
 use Rattle.std.specs.Str.{all_ascii_digits}
 use Rattle.std.specs.Char.{is_ascii_digit}
+use Rattle.std.specs.List.{list_all}
 use Rattle.std.proofs.lemmas.List.{at_drop_more}
 use Rattle.std.proofs.lemmas.Bool.{and_parts, and_right}
 use Rattle.std.proofs.lemmas.Bool.Decides.{nat_tests}
@@ -34,7 +35,11 @@ too_big limit xs h g = grind (arith, nat_tests)
 pub small_enough : (limit : ℕ) (xs : List ℕ) → numeral xs ≡ true → value xs ≤ limit → Ok (value xs) ≡ number_up_to limit xs
 small_enough limit xs h g = grind (arith, nat_tests)
 
--- a field that passes the tests, by the three facts
-pub is_numeral_lem : (xs : List ℕ) → eqb (length xs) 0 ≡ false → ((get_or xs 0 0 ≡ 48) × (length xs ≤ 1)) ⊎ (get_or xs 0 0 ≡ 48 → ⊥) → all_ascii_digits xs ≡ true → true ≡ numeral xs
-is_numeral_lem xs some (inl h) digits = grind (arith, nat_tests)
-is_numeral_lem xs some (inr h) digits = grind (arith, nat_tests)
+list_all_digits : (xs : List ℕ) → list_all is_ascii_digit xs ≡ all_ascii_digits xs
+list_all_digits [] = refl
+list_all_digits (c ∷ cs) = rw (list_all_digits cs) refl
+
+-- a field is a numeral if it has digits only, where it has one byte or begins with no 0
+pub numeral_from_digits : (xs : List ℕ) → 0 < length xs → (length xs < 2) ⊎ (get_or xs 0 0 ≡ 48 → ⊥) → list_all is_ascii_digit xs ≡ numeral xs
+numeral_from_digits xs some (inl h) = let digits = list_all_digits xs in grind (arith, nat_tests)
+numeral_from_digits xs some (inr h) = let digits = list_all_digits xs in grind (arith, nat_tests)

@@ -1,5 +1,5 @@
 -- A text cut at each place that holds a mark.
-use Rattle.std.specs.Prelude.{ℕ, cond, List, [], ◌∷◌, ◌++◌, length, drop, ◌==◌, ◌≢◌, nat_le}
+use Rattle.std.specs.Prelude.{ℕ, cond, List, [], ◌∷◌, ◌++◌, length, drop, ◌==◌, ◌≢◌, nat_le, count_by}
 use Rattle.std.specs.List.{AllByRecursion}
 
 abbrev pub on_first : ℕ → List (List ℕ) → List (List ℕ)
@@ -24,3 +24,6 @@ Lacks mark piece = AllByRecursion (λ c. c ≢ mark) piece
 -- the pieces from a place on, where one begins; past the end there is none
 abbrev pub left : ℕ → List ℕ → ℕ → List (List ℕ)
 left mark text at = cond (nat_le at (length text)) (pieces mark (drop at text)) []
+
+abbrev pub newlines : List ℕ → ℕ
+newlines text = count_by (λ c. c == 10) text

@@ -1,10 +1,11 @@
 // A line field by field.
 ghost use Rattle.std.specs.Prelude.{◌≡◌};
+ghost use Rattle.std.specs.Fn.{FnOnceReturnsAt};
 ghost use Rattle.std.specs.List.{AllByRecursion};
 ghost use Rattle.text.specs.Pieces.{pieces, joined, Lacks};
-ghost use Rattle.text.specs.Readers.{fields_left, Hands, Ends};
+ghost use Rattle.text.specs.Readers.{fields_left, Hands, Reads, Ends};
 
-use crate::fault::{Cause, FieldFault};
+use crate::fault::{Cause, FieldFault, in_field};
 use crate::find::find;
 
 // The fields of a line, which single tabs part: at least one.
@@ -38,6 +39,19 @@ impl<'a> FieldReader<'a> {
         let end = find(self.line, b'\t', start);
         self.at = end + 1;
         Ok(&self.line[start..end])
+    }
+
+    // What `read` makes of the next field, which is the one with this number.
+    pub fn read<T, F: FnOnce(&[u8]) -> Result<T, Cause> + Drop>(
+        &mut self,
+        number: usize,
+        read: F,
+    ) -> Result<T, FieldFault>
+        requires { F.IsAlwaysCallable read }
+        ensures { Reads (FnOnceReturnsAt F.FnOnce read) (fields_left self.old) number result (fields_left self.new) }
+    {
+        let field = self.field(number)?;
+        in_field(read(field), number)
     }
 
     // That no field is left; the one with this number would be the next.

@@ -9,9 +9,8 @@ pub(crate) fn find(text: &[u8], mark: u8, at: usize) -> usize
     ensures before { (k : ℕ) → at ≤ k → k < result → slice_index text.now k ≢ mark }
     ensures found { result < length text.now → slice_index text.now result ≡ mark }
 {
-    let mut end = at;
-    while end < text.len() && text[end] != mark {
-        end += 1;
+    match text[at..].iter().position(|c| *c == mark) {
+        Some(n) => at + n,
+        None => text.len(),
     }
-    end
 }

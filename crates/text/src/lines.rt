@@ -1,7 +1,7 @@
 // A text line by line.
 ghost use Rattle.std.specs.Prelude.{◌≡◌};
 ghost use Rattle.std.specs.List.{AllByRecursion};
-ghost use Rattle.text.specs.Pieces.{pieces, joined, Lacks};
+ghost use Rattle.text.specs.Pieces.{pieces, joined, newlines, Lacks};
 ghost use Rattle.text.specs.Readers.{lines_left, Advances};
 
 use crate::fault::{Cause, FieldFault};
@@ -42,4 +42,11 @@ impl<'a> LineReader<'a> {
         self.at = end + 1;
         Ok(Some(&self.text[start..end]))
     }
+}
+
+// How many newlines `text` holds.
+pub fn count_newlines(text: &[u8]) -> usize
+    ensures { result ≡ newlines text.now }
+{
+    text.iter().filter(|c| **c == b'\n').count()
 }

@@ -7,18 +7,10 @@ use crate::fault::Cause;
 fn is_numeral(field: &[u8]) -> bool
     ensures { result ≡ numeral field.now }
 {
-    if field.is_empty() {
-        return false;
+    match field {
+        [] | [b'0', _, ..] => false,
+        _ => field.iter().all(u8::is_ascii_digit),
     }
-    if field[0] == b'0' && field.len() > 1 {
-        return false;
-    }
-    for c in field {
-        if !c.is_ascii_digit() {
-            return false;
-        }
-    }
-    true
 }
 
 // The number that `field` spells, which may not pass `limit`.

@@ -2,8 +2,6 @@
 use Rattle.std.specs.Prelude.{ℕ, ◌^◌, cond, List, [], ◌∷◌, Some, None, codes, Option, ◌==◌}
 use Rattle.u5.specs.declared.operation.Operation.{Operation}
 use Rattle.u5.specs.declared.operation.Operation.TheVariants.{LoadB, LoadH, LoadW, StoreB, StoreH, StoreW, Add, Mul, Div, Nor, MovI, CMov, In, Out, Read, Write, Halt}
-use Rattle.u5.specs.declared.operation.Shape.{Shape}
-use Rattle.u5.specs.declared.operation.Shape.TheVariants.{Three, Two, One, Bare, Immediate}
 use Rattle.u5.specs.declared.operation.Kind.{Kind}
 use Rattle.u5.specs.declared.operation.Kind.TheVariants.{Register, Number}
 use Rattle.u5.specs.declared.operation.Slot.{Slot}
@@ -83,13 +81,6 @@ lowest w (s ∷ ss) = lowest s.weight ss
 -- what lies in a word below the last operand is unused: with no operand, all below the opcode
 abbrev pub unused : Operation → ℕ
 unused o = lowest (2 ^ 27) (slots o)
-
-abbrev pub slots_of : Shape → List Slot
-slots_of Three = three
-slots_of Two = two
-slots_of One = one
-slots_of Bare = []
-slots_of Immediate = moved
 
 unfoldable pub every : List Operation
 every = LoadB ∷ LoadH ∷ LoadW ∷ StoreB ∷ StoreH ∷ StoreW ∷ Add ∷ Mul ∷ Div ∷ Nor ∷ MovI ∷ CMov ∷ In ∷ Out ∷ Read ∷ Write ∷ Halt ∷ []

@@ -1,7 +1,6 @@
 // The 17 operations: how each is spelled, its opcode, and where its operands stand in a word.
-ghost use Rattle.std.specs.Prelude.{◌≡◌, ◌^◌, ◌<◌, IfSome, MatchOption, ◌≢◌};
-ghost use Rattle.std.specs.List.{slice_get};
-ghost use Rattle.u5.specs.Operations.{spelling, opcode, slots, slots_of, lowest, unused, register_at, number_at, named, coded};
+ghost use Rattle.std.specs.Prelude.{◌≡◌, ◌<◌, All, MatchOption, ◌≢◌};
+ghost use Rattle.u5.specs.Operations.{spelling, opcode, slots, unused, named, coded};
 
 #[derive(Clone, Copy)]
 pub enum Operation {
@@ -38,15 +37,30 @@ pub struct Slot {
     pub weight: u32,
 }
 
-// Which operands an operation has: A B C, A B, A, none, or R I S.
-#[derive(Clone, Copy)]
-enum Shape {
-    Three,
-    Two,
-    One,
-    Bare,
-    Immediate,
-}
+const A: Slot = Slot {
+    kind: Kind::Register,
+    weight: 0x20_0000,
+};
+
+const B: Slot = Slot {
+    kind: Kind::Register,
+    weight: 0x8000,
+};
+
+const C: Slot = Slot {
+    kind: Kind::Register,
+    weight: 0x200,
+};
+
+const IMMEDIATE: Slot = Slot {
+    kind: Kind::Number(65535),
+    weight: 32,
+};
+
+const SHIFT: Slot = Slot {
+    kind: Kind::Number(31),
+    weight: 1,
+};
 
 const OPERATIONS: [Operation; 17] = [
     Operation::LoadB,
@@ -119,36 +133,28 @@ impl Operation {
         }
     }
 
-    fn shape(self) -> Shape
-        ensures { slots_of result ≡ slots self }
+    // The places of the operands, in order. That each weighs stands here: a static holds no struct with a ghost field.
+    pub fn slots(self) -> &'static [Slot]
+        ensures value { result.now ≡ slots self }
+        ensures weigh { All (λ s. 0 < s.weight) result.now }
     {
         match self {
-            Operation::LoadB => Shape::Three,
-            Operation::LoadH => Shape::Three,
-            Operation::LoadW => Shape::Three,
-            Operation::StoreB => Shape::Three,
-            Operation::StoreH => Shape::Three,
-            Operation::StoreW => Shape::Three,
-            Operation::Add => Shape::Three,
-            Operation::Mul => Shape::Three,
-            Operation::Div => Shape::Three,
-            Operation::Nor => Shape::Three,
-            Operation::MovI => Shape::Immediate,
-            Operation::CMov => Shape::Three,
-            Operation::In => Shape::One,
-            Operation::Out => Shape::One,
-            Operation::Read => Shape::Two,
-            Operation::Write => Shape::Two,
-            Operation::Halt => Shape::Bare,
+            Operation::LoadB
+            | Operation::LoadH
+            | Operation::LoadW
+            | Operation::StoreB
+            | Operation::StoreH
+            | Operation::StoreW
+            | Operation::Add
+            | Operation::Mul
+            | Operation::Div
+            | Operation::Nor
+            | Operation::CMov => &[A, B, C],
+            Operation::MovI => &[A, IMMEDIATE, SHIFT],
+            Operation::In | Operation::Out => &[A],
+            Operation::Read | Operation::Write => &[A, B],
+            Operation::Halt => &[],
         }
-    }
-
-    // The place of the operand `k`, counted from 0.
-    pub fn slot(self, k: usize) -> Option<Slot>
-        ensures place { result ≡ slice_get (slots self) k }
-        ensures weighs { IfSome result (λ s. 0 < s.weight) }
-    {
-        slot_of(self.shape(), k)
     }
 
     // What the bits below the last operand can hold: those are unused.
@@ -156,7 +162,10 @@ impl Operation {
         ensures value { result ≡ unused self }
         ensures some { 0 < result }
     {
-        unused_of(self.shape())
+        match self.slots() {
+            [.., last] => last.weight,
+            [] => 0x800_0000,
+        }
     }
 
     // The operation that is spelled so.
@@ -196,54 +205,5 @@ impl Operation {
             31 => Some(Operation::Halt),
             _ => None,
         }
-    }
-}
-
-fn slot_of(shape: Shape, k: usize) -> Option<Slot>
-    ensures place { result ≡ slice_get (slots_of shape) k }
-    ensures weighs { IfSome result (λ s. 0 < s.weight) }
-{
-    match (shape, k) {
-        (Shape::Three, 0) => Some(register(0x20_0000)),
-        (Shape::Three, 1) => Some(register(0x8000)),
-        (Shape::Three, 2) => Some(register(0x200)),
-        (Shape::Two, 0) => Some(register(0x20_0000)),
-        (Shape::Two, 1) => Some(register(0x8000)),
-        (Shape::One, 0) => Some(register(0x20_0000)),
-        (Shape::Immediate, 0) => Some(register(0x20_0000)),
-        (Shape::Immediate, 1) => Some(number(65535, 32)),
-        (Shape::Immediate, 2) => Some(number(31, 1)),
-        _ => None,
-    }
-}
-
-fn unused_of(shape: Shape) -> u32
-    ensures value { result ≡ lowest (2 ^ 27) (slots_of shape) }
-    ensures some { 0 < result }
-{
-    match shape {
-        Shape::Three => 0x200,
-        Shape::Two => 0x8000,
-        Shape::One => 0x20_0000,
-        Shape::Bare => 0x800_0000,
-        Shape::Immediate => 1,
-    }
-}
-
-fn register(weight: u32) -> Slot
-    ensures { result ≡ register_at weight }
-{
-    Slot {
-        kind: Kind::Register,
-        weight,
-    }
-}
-
-fn number(limit: u32, weight: u32) -> Slot
-    ensures { result ≡ number_at limit weight }
-{
-    Slot {
-        kind: Kind::Number(limit),
-        weight,
     }
 }

@@ -1,27 +1,12 @@
-use Rattle.std.proofs.Common.{◌≡◌, ◌+◌, true, ◌&&◌, drop, sym, ap, ◌∙◌}
-use Rattle.std.specs.Str.{all_ascii_digits}
-use Rattle.std.proofs.lemmas.List.{at_drop_all}
-use Rattle.text.proofs.Numbers.{split_digits, not_numeral, is_numeral_lem}
+use Rattle.std.proofs.Common.{rules, tests, arith, ◌∙◌}
+use Rattle.std.specs.Char.{is_ascii_digit}
+use Rattle.std.proofs.lemmas.Iterator.{YieldsList-from_slice}
+use Rattle.std.proofs.lemmas.Iterator.Search.{all_from_yields_List}
+use Rattle.text.proofs.Numbers.{numeral_from_digits}
 use Rattle.text.proofs.number.is_numeral.Goals as goal
+use Rattle.text.proofs.number.is_numeral.Goals.{in_default-via-then-field-lt2, in_default-via-else-field-lt2+in_default-1}
 
-pub returns-then-not-is_ascii_digit : goal.returns-then-not-is_ascii_digit
-returns-then-not-is_ascii_digit c =
-    let xs = c.args.field.now in
-    let i = c.loop-c.c-index in
-    let digit = c.if-not-is_ascii_digit.ensures.value in
-    let step = split_digits xs i c.loop-c-test.true in
-    sym (not_numeral xs (sym c.loop-c.invariant ∙ step ∙ ap (λ d. d && all_ascii_digits (drop (i + 1) xs)) (sym digit)))
-
-pub loop-c-preserved : goal.loop-c-preserved
-loop-c-preserved c =
-    let xs = c.args.field.now in
-    let i = c.loop-c.c-index in
-    let digit = c.if-not-is_ascii_digit.ensures.value in
-    let step = split_digits xs i c.loop-c-test.true in
-    ap (λ d. d && all_ascii_digits (drop (i + 1) xs)) digit ∙ sym step ∙ c.loop-c.invariant
-
-pub returns : goal.returns
-returns c =
-    let xs = c.args.field.now in
-    let all : all_ascii_digits xs ≡ true = sym c.loop-c.invariant ∙ at_drop_all all_ascii_digits xs c.loop-c.c-index c.loop-c-test.false in
-    is_numeral_lem xs (sym c.if-is_empty.ensures) c.else-field-eq48.either all
+pub returns-in_default : goal.returns-in_default
+returns-in_default c =
+    let digits = all_from_yields_List is_ascii_digit _ _ c.all.result c.all.ensures.ran (YieldsList-from_slice c.args.field.now cc) (λ x b q k. search (rules, tests)) in
+    digits ∙ numeral_from_digits c.args.field.now (grind arith) (grind arith)
