@@ -22,60 +22,49 @@ pub(crate) enum Call<'a> {
     Void,
 }
 
+impl Call<'_> {
+    // The number of the field that would be one too many on its line.
+    fn extra(self) -> usize {
+        match self {
+            Call::Start | Call::Registers | Call::Void => 2,
+            Call::Open { .. } => 4,
+            _ => 3,
+        }
+    }
+}
+
 // A field that is a number up to a limit.
 fn number(fields: &mut FieldReader, place: usize, limit: u32) -> Result<u32, FieldFault> {
-    let field = fields.field(place)?;
-    in_field(read_number(field, limit), place)
+    fields.read(place, |field: &[u8]| read_number(field, limit))
 }
 
 // A call that has a number behind its word.
 fn with_number<'a>(word: &[u8], fields: &mut FieldReader<'a>) -> Result<Call<'a>, FieldFault> {
-    if word == b"memory".as_slice() {
-        return Ok(Call::Memory(number(fields, 2, MEMORY)?));
-    }
     let count = number(fields, 2, u32::MAX)?;
-    if word == b"run".as_slice() {
-        return Ok(Call::Run(count));
-    }
-    if word == b"collect".as_slice() {
-        return Ok(Call::Collect(count));
-    }
-    if word == b"draw".as_slice() {
-        return Ok(Call::Draw(count));
-    }
-    if word == b"give-back".as_slice() {
-        return Ok(Call::GiveBack(count));
-    }
-    if word == b"settle".as_slice() {
-        return Ok(Call::Settle(count));
-    }
-    if word == b"open".as_slice() {
-        let grant = number(fields, 3, u32::MAX)?;
-        return Ok(Call::Open {
+    match word {
+        b"run" => Ok(Call::Run(count)),
+        b"collect" => Ok(Call::Collect(count)),
+        b"draw" => Ok(Call::Draw(count)),
+        b"give-back" => Ok(Call::GiveBack(count)),
+        b"settle" => Ok(Call::Settle(count)),
+        b"open" => Ok(Call::Open {
             candidate: count,
-            grant,
-        });
+            grant: number(fields, 3, u32::MAX)?,
+        }),
+        _ => in_field(Err(Cause::Spelling), 1),
     }
-    in_field(Err(Cause::Spelling), 1)
 }
 
 fn by_word<'a>(word: &[u8], fields: &mut FieldReader<'a>) -> Result<Call<'a>, FieldFault> {
-    if word == b"start".as_slice() {
-        return Ok(Call::Start);
+    match word {
+        b"start" => Ok(Call::Start),
+        b"registers" => Ok(Call::Registers),
+        b"void" => Ok(Call::Void),
+        b"feed" => Ok(Call::Feed(fields.field(2)?)),
+        b"tally" => Ok(Call::Tally(fields.field(2)?)),
+        b"memory" => Ok(Call::Memory(number(fields, 2, MEMORY)?)),
+        _ => with_number(word, fields),
     }
-    if word == b"registers".as_slice() {
-        return Ok(Call::Registers);
-    }
-    if word == b"void".as_slice() {
-        return Ok(Call::Void);
-    }
-    if word == b"feed".as_slice() {
-        return Ok(Call::Feed(fields.field(2)?));
-    }
-    if word == b"tally".as_slice() {
-        return Ok(Call::Tally(fields.field(2)?));
-    }
-    with_number(word, fields)
 }
 
 // The call that a line makes; a fault where it makes none.
@@ -83,14 +72,7 @@ pub(crate) fn read_call(line: &[u8]) -> Result<Call<'_>, FieldFault> {
     let mut fields = FieldReader::new(line);
     let word = fields.field(1)?;
     let call = by_word(word, &mut fields)?;
-    let places = match call {
-        Call::Start => 2,
-        Call::Registers => 2,
-        Call::Void => 2,
-        Call::Open { .. } => 4,
-        _ => 3,
-    };
-    fields.end(places)?;
+    fields.end(call.extra())?;
     Ok(call)
 }
 
@@ -99,10 +81,7 @@ pub(crate) fn three_fields(line: &[u8]) -> Result<(&[u8], &[u8], &[u8]), FieldFa
     let mut fields = FieldReader::new(line);
     let word = fields.field(1)?;
     let kind = fields.field(2)?;
-    let file = match fields.field(3) {
-        Ok(file) => file,
-        Err(_) => b"",
-    };
+    let file = fields.field(3).unwrap_or(b"");
     fields.end(4)?;
     Ok((word, kind, file))
 }

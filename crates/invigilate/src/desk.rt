@@ -1,6 +1,7 @@
 // The sitting at the desk: at most one is open, and none is lost.
+use crate::say::{say_none, say_refused};
 use sitting::calls::open;
-use sitting::token::Sitting;
+use sitting::token::{Settled, Sitting, Voided};
 use std::io;
 
 // A sitting, where one is open.
@@ -9,18 +10,8 @@ pub(crate) struct Desk {
 }
 
 fn say_voided(rt: &HostRuntime, sitting: Sitting) -> io::Result<()> {
-    let record = sitting.void();
-    let candidate = record.candidate;
-    let used = record.used;
+    let Voided { candidate, used } = sitting.void();
     println!(rt; "{candidate}\t{used}")
-}
-
-fn say_refused(rt: &HostRuntime, number: u8) -> io::Result<()> {
-    println!(rt; "refused\t{number}")
-}
-
-fn say_none(rt: &HostRuntime) -> io::Result<()> {
-    println!(rt; "no sitting is open")
 }
 
 impl Desk {
@@ -32,9 +23,8 @@ impl Desk {
     pub(crate) fn open(&mut self, rt: &HostRuntime, candidate: u16, grant: u32) -> io::Result<()> {
         match open(candidate, grant) {
             Ok(sitting) => {
-                match self.sitting.replace(sitting) {
-                    Some(before) => say_voided(rt, before)?,
-                    None => {}
+                if let Some(before) = self.sitting.replace(sitting) {
+                    say_voided(rt, before)?;
                 }
                 println!(rt; "ok")
             }
@@ -42,50 +32,43 @@ impl Desk {
         }
     }
 
-    // Puts a sitting back that was taken from the desk.
-    fn put(&mut self, sitting: Sitting) {
-        match self.sitting.replace(sitting) {
-            Some(other) => {
-                let _ = other.void();
-            }
-            None => {}
+    // What a call on the open sitting answers: nothing, or the number of its refusal.
+    fn change<F: FnOnce(&mut Sitting) -> Result<(), u8> + Drop>(
+        &mut self,
+        rt: &HostRuntime,
+        call: F,
+    ) -> io::Result<()>
+        requires { F.IsAlwaysCallable call }
+    {
+        match &mut self.sitting {
+            Some(sitting) => match call(sitting) {
+                Ok(()) => println!(rt; "ok"),
+                Err(number) => say_refused(rt, number),
+            },
+            None => say_none(rt),
         }
     }
 
     pub(crate) fn draw(&mut self, rt: &HostRuntime, count: u32) -> io::Result<()> {
-        match self.sitting.take() {
-            Some(mut sitting) => {
-                let drawn = sitting.draw(count);
-                self.put(sitting);
-                match drawn {
-                    Ok(()) => println!(rt; "ok"),
-                    Err(refusal) => say_refused(rt, refusal.number()),
-                }
-            }
-            None => say_none(rt),
-        }
+        self.change(rt, |sitting: &mut Sitting| {
+            sitting.draw(count).map_err(|refusal| refusal.number())
+        })
     }
 
     pub(crate) fn give_back(&mut self, rt: &HostRuntime, count: u32) -> io::Result<()> {
-        match self.sitting.take() {
-            Some(mut sitting) => {
-                let given = sitting.give_back(count);
-                self.put(sitting);
-                match given {
-                    Ok(()) => println!(rt; "ok"),
-                    Err(refusal) => say_refused(rt, refusal.number()),
-                }
-            }
-            None => say_none(rt),
-        }
+        self.change(rt, |sitting: &mut Sitting| {
+            sitting.give_back(count).map_err(|refusal| refusal.number())
+        })
     }
 
     pub(crate) fn settle(&mut self, rt: &HostRuntime, points: u32) -> io::Result<()> {
         match self.sitting.take() {
             Some(sitting) => {
-                let record = sitting.settle(points);
-                let candidate = record.candidate;
-                let used = record.used;
+                let Settled {
+                    candidate,
+                    used,
+                    points,
+                } = sitting.settle(points);
                 println!(rt; "{candidate}\t{used}\t{points}")
             }
             None => say_none(rt),

@@ -1,14 +1,12 @@
 // The station of a hall: each call is made and answered by a line.
 use crate::call::{Call, read_call};
 use crate::desk::Desk;
-use crate::lines::{load, next_line};
+use crate::lines::{Lines, asks_nothing, load};
+use crate::say::{say_refused, say_unknown, say_untallied};
 use console::Console;
 use disk::Writable;
-use station::answer::TallyRefusal;
 use station::unit::Station;
 use std::io;
-use std::io::BufRead;
-use text::number::read_number;
 use u5::operand::Register;
 
 // A station with its memory, and the sitting of who uses it.
@@ -16,52 +14,6 @@ pub(crate) struct Hall {
     station: Station,
     memory: Vec<u8>,
     desk: Desk,
-}
-
-fn say_refused(rt: &HostRuntime, number: u8) -> io::Result<()> {
-    println!(rt; "refused\t{number}")
-}
-
-fn say_untallied(rt: &HostRuntime, refusal: TallyRefusal) -> io::Result<()> {
-    let number = refusal.number();
-    match refusal {
-        TallyRefusal::Form(fault) => {
-            let line = fault.line;
-            let field = fault.field;
-            let cause = fault.cause.name();
-            println!(rt; "refused\t{number}\t{line}\t{field}\t{cause}")
-        }
-        _ => say_refused(rt, number),
-    }
-}
-
-fn say_unknown(rt: &HostRuntime) -> io::Result<()> {
-    println!(rt; "not understood")
-}
-
-// The value of a hexadecimal digit.
-fn digit(c: u8) -> Option<u8> {
-    match c {
-        b'0'..=b'9' => Some(c - b'0'),
-        b'a'..=b'f' => Some(c - b'a' + 10),
-        b'A'..=b'F' => Some(c - b'A' + 10),
-        _ => None,
-    }
-}
-
-// The bytes that hexadecimal digits spell, two digits each.
-fn unhex(rt: &HostRuntime, digits: &[u8]) -> io::Result<Option<Vec<u8>>> {
-    let mut bytes = Vec::new(rt.alloc());
-    if digits.len() % 2 != 0 {
-        return Ok(None);
-    }
-    for k in 0..digits.len() / 2 {
-        match (digit(digits[2 * k]), digit(digits[2 * k + 1])) {
-            (Some(high), Some(low)) => bytes.push(high.wrapping_mul(16).wrapping_add(low))?,
-            _ => return Ok(None),
-        }
-    }
-    Ok(Some(bytes))
 }
 
 impl Hall {
@@ -81,13 +33,11 @@ impl Hall {
     fn start<D: Writable, C: Console>(
         &mut self,
         rt: &HostRuntime,
-        disk: &mut D,
-        console: &mut C,
+        disk: &D,
+        console: &C,
     ) -> io::Result<()> {
-        match self
-            .station
-            .start(self.memory.as_mut_slice(), disk, console)
-        {
+        let memory = self.memory.as_mut_slice();
+        match self.station.start(memory, disk, console) {
             Ok(()) => println!(rt; "ok"),
             Err(refusal) => say_refused(rt, refusal.number()),
         }
@@ -100,26 +50,18 @@ impl Hall {
         console: &mut C,
         steps: u32,
     ) -> io::Result<()> {
-        match self
-            .station
-            .run(self.memory.as_mut_slice(), disk, console, steps)
-        {
-            Ok(answer) => {
-                let count = answer.count;
-                let name = answer.stop.name();
-                println!(rt; "{count}\t{name}")
-            }
+        let memory = self.memory.as_mut_slice();
+        match self.station.run(memory, disk, console, steps) {
+            Ok(answer) => println!(rt; "{}\t{}", answer.count, answer.stop.name()),
             Err(refusal) => say_refused(rt, refusal.number()),
         }
     }
 
+    // The bytes are hexadecimal, two digits each.
     fn feed<C: Console>(&self, rt: &HostRuntime, console: &mut C, digits: &[u8]) -> io::Result<()> {
-        match unhex(rt, digits)? {
-            Some(bytes) => {
-                let went = self.station.feed(console, bytes.as_slice());
-                println!(rt; "{went}")
-            }
-            None => say_unknown(rt),
+        match hex::decode(rt.alloc(), digits) {
+            Ok(bytes) => println!(rt; "{}", self.station.feed(console, bytes.as_slice())),
+            Err(_) => say_unknown(rt),
         }
     }
 
@@ -128,33 +70,25 @@ impl Hall {
         let size = console.printed().min(room as usize);
         let mut buffer = vec![in rt.alloc(); 0u8; size]?;
         let came = self.station.collect(console, buffer.as_mut_slice());
-        print!(rt; "{came}\t")?;
-        for byte in buffer.as_slice() {
-            print!(rt; "{byte:02x}")?;
-        }
-        println!(rt; "")
+        println!(rt; "{came}\t{}", hex::encode(rt.alloc(), buffer.as_slice())?)
     }
 
     fn tally<D: Writable>(&self, rt: &HostRuntime, disk: &D, file: &[u8]) -> io::Result<()> {
-        match load(rt, file)? {
-            Some(sheet) => match self
-                .station
-                .tally(self.memory.as_slice(), disk, sheet.as_slice())
-            {
-                Ok(points) => println!(rt; "{points}"),
-                Err(refusal) => say_untallied(rt, refusal),
-            },
-            None => Ok(()),
+        let Some(sheet) = load(rt, file)? else {
+            return Ok(());
+        };
+        let memory = self.memory.as_slice();
+        match self.station.tally(memory, disk, sheet.as_slice()) {
+            Ok(points) => println!(rt; "{points}"),
+            Err(refusal) => say_untallied(rt, refusal),
         }
     }
 
     fn say_registers(&self, rt: &HostRuntime) -> io::Result<()> {
         for number in 0..64u8 {
             let value = self.station.register(Register { number });
-            if number > 0 {
-                print!(rt; " ")?;
-            }
-            print!(rt; "{value:08x}")?;
+            let before = if number > 0 { " " } else { "" };
+            print!(rt; "{before}{value:08x}")?;
         }
         println!(rt; "")
     }
@@ -190,17 +124,18 @@ impl Hall {
     }
 
     // Answers line after line, until the input ends.
-    pub(crate) fn serve<B: BufRead, D: Writable, C: Console>(
+    pub(crate) fn serve<D: Writable, C: Console>(
         &mut self,
         rt: &HostRuntime,
-        input: &mut B,
+        lines: &mut Lines,
         disk: &mut D,
         console: &mut C,
     ) -> io::Result<()> {
-        for _ in 0..u64::MAX {
-            let Some(line) = next_line(rt, input)? else {
-                return Ok(());
-            };
+        for line in lines.by_ref() {
+            let line = line?;
+            if asks_nothing(line.as_slice()) {
+                continue;
+            }
             match read_call(line.as_slice()) {
                 Ok(call) => self.answer(rt, disk, console, call)?,
                 Err(_) => say_unknown(rt)?,

@@ -1,31 +1,14 @@
 // Lines of standard input, and files that they name.
-use std::io::BufRead;
+use std::alloc::Global;
+use std::io::{BufReader, Split, Stdin};
 use std::{fs, io};
 
-// The next line that is neither empty nor a remark, without its newline; none at the end of the input.
-pub(crate) fn next_line<B: BufRead>(
-    rt: &HostRuntime,
-    input: &mut B,
-) -> io::Result<Option<Vec<u8>>> {
-    for _ in 0..u64::MAX {
-        let mut line = Vec::new(rt.alloc());
-        let size = input.read_until(b'\n', &mut line)?;
-        if size == 0 {
-            return Ok(None);
-        }
-        if line.as_slice().last() == Some(&b'\n') {
-            let _ = line.pop();
-        }
-        match line.as_slice().first() {
-            None => {}
-            Some(c) => {
-                if *c != b'#' {
-                    return Ok(Some(line));
-                }
-            }
-        }
-    }
-    Ok(None)
+// What is left of standard input, line by line.
+pub(crate) type Lines = Split<BufReader<Stdin>, Global>;
+
+// A line that is empty or a remark asks nothing.
+pub(crate) fn asks_nothing(line: &[u8]) -> bool {
+    matches!(line, [] | [b'#', ..])
 }
 
 // The bytes of a file; where it can't be read, a line says so.
