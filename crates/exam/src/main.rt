@@ -1,6 +1,8 @@
 // Runs the program on a disk once, with standard input as its script.
 #![tactic(auto)]
 
+ghost use Rattle.std.specs.Prelude.{◌≤◌, length, IfOk};
+
 use console::{Console, Script};
 use disk::{ReadOnlyImage, Readable, Writable};
 use host::{fill, load};
@@ -14,7 +16,9 @@ use std::io::Write;
 const STEPS: u32 = 1_000_000;
 
 // The beginning of disk.bin; where there is none, nothing.
-fn load_disk(rt: &HostRuntime, buffer: &mut [u8]) -> io::Result<usize> {
+fn load_disk(rt: &HostRuntime, buffer: &mut [u8]) -> io::Result<usize>
+    ensures { IfOk result (λ n. n ≤ length buffer.new) }
+{
     match load(rt, "disk.bin", buffer) {
         Ok(size) => Ok(size),
         Err(e) => {
@@ -22,6 +26,10 @@ fn load_disk(rt: &HostRuntime, buffer: &mut [u8]) -> io::Result<usize> {
             Ok(0)
         }
     }
+}
+
+fn say_refused(rt: &HostRuntime, number: u8) -> io::Result<()> {
+    println!(rt; "refused\t{number}")
 }
 
 // The printed text, the count and the stop's name.
@@ -33,12 +41,10 @@ fn say<C: Console>(
 ) -> io::Result<()> {
     let mut printed = [0u8; 4096];
     let came = station.collect(console, &mut printed);
-    if let Some(text) = printed.get(0..came) {
+    if let Some(text) = printed.get(..came) {
         rt.stdout().write_all(text)?;
     }
-    let count = answer.count;
-    let name = answer.stop.name();
-    println!(rt; "{count}\t{name}")
+    println!(rt; "{}\t{}", answer.count, answer.stop.name())
 }
 
 fn examine<D: Writable, C: Console>(
@@ -49,15 +55,11 @@ fn examine<D: Writable, C: Console>(
     let mut memory = [0u8; 65536];
     let mut station = Station::new();
     if let Err(refusal) = station.start(&mut memory, disk, console) {
-        let number = refusal.number();
-        return println!(rt; "refused\t{number}");
+        return say_refused(rt, refusal.number());
     }
     match station.run(&mut memory, disk, console, STEPS) {
         Ok(answer) => say(rt, &station, console, answer),
-        Err(refusal) => {
-            let number = refusal.number();
-            println!(rt; "refused\t{number}")
-        }
+        Err(refusal) => say_refused(rt, refusal.number()),
     }
 }
 
@@ -67,12 +69,7 @@ fn main(rt: HostRuntime) -> io::Result<()> {
     let mut typed = [0u8; 4096];
     let length = fill(&mut rt.stdin(), &mut typed)?;
     let mut paper = [0u8; 4096];
-    match (sectors.get(0..size), typed.get(0..length)) {
-        (Some(bytes), Some(script)) => {
-            let mut disk = Overlay::new(ReadOnlyImage::new(bytes));
-            let mut console = Script::new(script, &mut paper);
-            examine(&rt, &mut disk, &mut console)
-        }
-        _ => Ok(()),
-    }
+    let mut disk = Overlay::new(ReadOnlyImage::new(&sectors[..size]));
+    let mut console = Script::new(&typed[..length], &mut paper);
+    examine(&rt, &mut disk, &mut console)
 }

@@ -12,15 +12,15 @@ pub fn fill<R: Read>(input: &mut R, buffer: &mut [u8]) -> io::Result<usize>
     ensures { IfOk result (λ n. n ≤ length buffer.new) }
 {
     let size = buffer.len();
-    let mut got = 0;
-    while got < size {
-        let more = input.read(&mut buffer[got..size])?;
+    let mut rest = buffer;
+    while !rest.is_empty() {
+        let more = input.read(rest)?;
         if more == 0 {
             break;
         }
-        got += more;
+        rest = &mut rest[more..];
     }
-    Ok(got)
+    Ok(size - rest.len())
 }
 
 // The beginning of a file, and how many bytes came: none where there is no such file.
@@ -29,11 +29,7 @@ pub fn load(rt: &HostRuntime, path: &str, buffer: &mut [u8]) -> io::Result<usize
 {
     match File::open(rt, path) {
         Ok(mut file) => fill(&mut file, buffer),
-        Err(e) => {
-            if e.kind() == ErrorKind::NotFound {
-                return Ok(0);
-            }
-            Err(e)
-        }
+        Err(e) if e.kind() == ErrorKind::NotFound => Ok(0),
+        Err(e) => Err(e),
     }
 }

@@ -7,9 +7,7 @@ use std::{env, io};
 
 // The candidate's number, which is the program's argument; 1 where there is none.
 fn candidate(rt: &HostRuntime) -> io::Result<Option<u16>> {
-    let mut arguments = env::args(rt)?;
-    let _ = arguments.next();
-    let Some(argument) = arguments.next() else {
+    let Some(argument) = env::args(rt)?.nth(1) else {
         return Ok(Some(1));
     };
     match argument.as_str().parse::<u16>() {

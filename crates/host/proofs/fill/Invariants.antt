@@ -1,8 +1,8 @@
-use Rattle.std.proofs.Common.{◌≡◌, ◌-◌, ◌≤◌, length}
+use Rattle.std.proofs.Common.{◌≤◌, length}
 use Rattle.host.proofs.fill.Given as goal
 
-abbrev pub invariant-loop-got : goal.invariant-loop-got
-invariant-loop-got g l = (l.got ≤ l.size) × (l.size ≡ length l.buffer)
+abbrev pub invariant-loop-input : goal.invariant-loop-input
+invariant-loop-input g l = length l.rest ≤ l.size
 
-abbrev pub decreases-loop-got : goal.decreases-loop-got
-decreases-loop-got g l = l.size - l.got
+abbrev pub decreases-loop-input : goal.decreases-loop-input
+decreases-loop-input g l = length l.rest
