@@ -1,15 +1,17 @@
 -- The words of a text, counted and written line by line.
 use Rattle.std.proofs.Common.{◌≡◌, ℕ, suc, ◌+◌, ◌*◌, ◌/◌, ◌%◌, ◌^◌, ◌<◌, ◌≤◌, true, false, eqb, List, [], ◌∷◌, ◌++◌, length, is_ok, Ok, Err, Result, sym, refl, ap, ◌∙◌, subst, append_assoc, append-nil, arith, length-append}
+use Rattle.std.specs.Result.{IsOk}
 use Rattle.std.proofs.lemmas.Bool.{cond-false, ne_eqb}
 use Rattle.text.specs.declared.fault.Cause.TheVariants.{End}
 use Rattle.text.specs.declared.fault.FieldFault.{FieldFault}
 use Rattle.text.specs.declared.fault.Fault.{Fault}
 use Rattle.text.specs.Faults.{at_field, at_line, on_line}
 use Rattle.text.proofs.Placing.{on_line_ok}
+use Rattle.assembler.specs.declared.writer.Writer.{Writer}
 use Rattle.assembler.specs.Lines.{line_word}
 use Rattle.assembler.specs.Texts.{onward, with_line, words_from, counted, words_of, bytes}
-use Rattle.assembler.specs.Writes.{Appended}
-use Rattle.assembler.proofs.Writing.{then}
+use Rattle.assembler.specs.Writes.{Writes}
+use Rattle.assembler.proofs.Writing.{writes_then}
 
 -- so many words were counted before
 abbrev pub plus : ℕ → Result ℕ Fault → Result ℕ Fault
@@ -49,10 +51,10 @@ none_counted (Ok m) = ap Ok (omega arith)
 none_counted (Err fault) = refl
 
 -- what is written so far, and what the pieces that are left make, are the whole
-pub record Written (out whole after : List ℕ) (end : ℕ) (rest : List (List ℕ)) : Type 0 where
+pub record Written (first : Writer) (whole : List ℕ) (after : Writer) (rest : List (List ℕ)) : Type 0 where
   pub line : ℕ
   pub done : List ℕ
-  pub there : Appended out 0 done after end
+  pub there : Writes first done after
   pub sound : is_ok (words_from line rest) ≡ true
   pub split : done ++ bytes (words_of (words_from line rest)) ≡ whole
 
@@ -63,7 +65,7 @@ onward_ok w (Err fault) h = (h, absurd (let z : ◌≡◌ {A = ℕ} 0 1 = cc in 
 abbrev pub four : ℕ → List ℕ
 four w = w / 2 ^ 24 % 256 ∷ w / 2 ^ 16 % 256 ∷ w / 2 ^ 8 % 256 ∷ w % 256 ∷ []
 
-module _ {out whole after : List ℕ} {end : ℕ} {before : List (List ℕ)} (so_far : Written out whole after end before) (p : List ℕ) (rest : List (List ℕ)) (some : 0 < length rest) (cut : before ≡ p ∷ rest) where
+module _ {first after : Writer} {whole : List ℕ} {before : List (List ℕ)} (so_far : Written first whole after before) (p : List ℕ) (rest : List (List ℕ)) (some : 0 < length rest) (cut : before ≡ p ∷ rest) where
   here : (r : Result ℕ FieldFault) → r ≡ line_word p → words_from so_far.line before ≡ with_line (on_line r so_far.line) (words_from (suc so_far.line) rest)
   here r e = ap (words_from so_far.line) cut ∙ line_then so_far.line p rest some ∙ ap (λ x. with_line (on_line x so_far.line) (words_from (suc so_far.line) rest)) (sym e)
 
@@ -73,24 +75,28 @@ module _ {out whole after : List ℕ} {end : ℕ} {before : List (List ℕ)} (so
       let o = onward_ok w (words_from (suc so_far.line) rest) (ap is_ok (sym is) ∙ so_far.sound) in
       (o.0, append_assoc so_far.done (four w) (bytes (words_of (words_from (suc so_far.line) rest))) ∙ ap (λ ws. so_far.done ++ bytes ws) (sym (ap words_of is ∙ o.1)) ∙ so_far.split)
 
-  pub word_room : (w : ℕ) → Ok w ≡ line_word p → length whole ≤ length out → end + 4 ≤ length after
+  pub word_room : (w : ℕ) → Ok w ≡ line_word p → first.end + length whole ≤ length first.out.now → after.end + 4 ≤ length after.out.now
   word_room w e h =
       let n = next w e in
-      omega (arith, so_far.there.till, so_far.there.size, ap length n.1, length-append (so_far.done ++ four w) (bytes (words_of (words_from (suc so_far.line) rest))), length-append so_far.done (four w))
+      omega (arith, so_far.there.written.till, so_far.there.written.size, ap length n.1, length-append (so_far.done ++ four w) (bytes (words_of (words_from (suc so_far.line) rest))), length-append so_far.done (four w))
 
-  pub word_more : (w : ℕ) (after' : List ℕ) (end' : ℕ) → Ok w ≡ line_word p → Appended after end (four w) after' end' → Written out whole after' end' rest
-  word_more w after' end' e a =
+  pub word_more : (w : ℕ) (after' : Writer) → Ok w ≡ line_word p → Writes after (four w) after' → Written first whole after' rest
+  word_more w after' e a =
       let n = next w e in
-      record { line = suc so_far.line; done = so_far.done ++ four w; there = then so_far.there a; sound = n.0; split = n.1 }
+      record { line = suc so_far.line; done = so_far.done ++ four w; there = writes_then so_far.there a; sound = n.0; split = n.1 }
 
-  pub no_fault : (f : FieldFault) → Err f ≡ line_word p → ⊥
+  no_fault : (f : FieldFault) → Err f ≡ line_word p → ⊥
   no_fault f e = let z : is_ok (words_from so_far.line before) ≡ false = ap is_ok (here (Err f) e) in let y : ◌≡◌ {A = ℕ} 0 1 = cc so_far.sound in omega arith
 
-module _ {out whole after : List ℕ} {end : ℕ} {before : List (List ℕ)} (so_far : Written out whole after end before) where
-  pub all_written : before ≡ [] ∷ [] → Appended out 0 whole after end
+  pub no_line_faulty : (r : Result ℕ FieldFault) → r ≡ line_word p → IsOk r
+  no_line_faulty (Ok w) e = refl
+  no_line_faulty (Err f) e = absurd (no_fault f e)
+
+module _ {first after : Writer} {whole : List ℕ} {before : List (List ℕ)} (so_far : Written first whole after before) where
+  pub all_written : before ≡ [] ∷ [] → Writes first whole after
   all_written cut =
       let none : bytes (words_of (words_from so_far.line before)) ≡ [] = ap (λ b. bytes (words_of (words_from so_far.line b))) cut in
-      subst (λ l. Appended out 0 l after end) (sym (append-nil so_far.done) ∙ ap (λ l. so_far.done ++ l) (sym none) ∙ so_far.split) so_far.there
+      subst (λ l. Writes first l after) (sym (append-nil so_far.done) ∙ ap (λ l. so_far.done ++ l) (sym none) ∙ so_far.split) so_far.there
 
   pub always_ended : (p : List ℕ) → 0 < length p → before ≡ p ∷ [] → ⊥
   always_ended p h cut =

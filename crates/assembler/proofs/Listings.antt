@@ -1,5 +1,5 @@
 -- The line of a word spells the word, and a whole listing spells its words within assemble's limits.
-use Rattle.std.proofs.Common.{◌≡◌, ℕ, zero, suc, ◌+◌, ◌-◌, ◌*◌, ◌/◌, ◌%◌, ◌^◌, ◌<◌, ◌≤◌, Bool, true, false, not, ◌&&◌, eqb, ltb, ◌⊎◌, List, [], ◌∷◌, ◌++◌, map, length, get_or, take, Some, None, codes, Option, sym, refl, ap, ◌∙◌, subst, inl, inr, ⊎_elim, append-nil, arith, length-append}
+use Rattle.std.proofs.Common.{cond, ◌≡◌, ℕ, zero, suc, ◌+◌, ◌-◌, ◌*◌, ◌/◌, ◌%◌, ◌^◌, ◌<◌, ◌≤◌, Bool, true, false, not, ◌&&◌, eqb, ltb, ◌⊎◌, List, [], ◌∷◌, ◌++◌, map, length, get_or, take, Some, None, codes, Option, sym, refl, ap, ◌∙◌, subst, inl, inr, ⊎_elim, append-nil, arith, length-append}
 use Rattle.std.specs.List.{AllByRecursion}
 use Rattle.std.proofs.lemmas.Nat.{mod_below}
 use Rattle.std.proofs.lemmas.Bool.{and_parts, and_from, cases_Bool, eqb-true, eqb-false, eq-eqb, ne_eqb, cond-true, cond-false, cond_both, not-true}
@@ -22,7 +22,9 @@ use Rattle.assembler.specs.declared.keyword.Keyword.TheVariants.{Of, Word}
 use Rattle.assembler.specs.Keywords.{spelling, base, slots}
 use Rattle.assembler.specs.Grammar.{Names, NamesEach, Spells}
 use Rattle.assembler.specs.Programs.{SpellsEach, SpellsText}
-use Rattle.assembler.specs.Assembly.{newlines, WithinLimits}
+use Rattle.std.proofs.lemmas.List.Sums.{sum_by-append, sum_by-cons}
+use Rattle.text.specs.Pieces.{newlines}
+use Rattle.assembler.specs.Assembly.{WithinLimits}
 use Rattle.assembler.specs.Listing.{operand_text, exactly, listed_as, tail, line_as, listed, listing, words_at}
 use Rattle.assembler.specs.Lists.{operand_texts, instruction_line, LineOf, OneLine, LineOfEach, ended, Listed}
 use Rattle.assembler.specs.Writes.{Appended}
@@ -216,12 +218,15 @@ ended_listing : (ws : List ℕ) → ended (map listed ws) ≡ listing ws
 ended_listing [] = refl
 ended_listing (w ∷ ws) = ap (λ l. listed w ++ (10 ∷ l)) (ended_listing ws)
 
-newlines_line : (xs ys : List ℕ) → free 10 xs ≡ true → newlines (xs ++ (10 ∷ ys)) ≡ 1 + newlines ys
-newlines_line [] ys h = refl
-newlines_line (c ∷ xs) ys h =
+no_newlines : (xs : List ℕ) → free 10 xs ≡ true → newlines xs ≡ 0
+no_newlines [] h = refl
+no_newlines (c ∷ xs) h =
     let p = and_parts (not (eqb c 10)) (free 10 xs) h in
     let no = not-true (eqb c 10) p.0 in
-    rw no (newlines_line xs ys p.1)
+    omega (arith, sum_by-cons (λ x. cond (eqb x 10) 1 0) c xs, no_newlines xs p.1, ap {B = ℕ} (λ b. cond b 1 0) no)
+
+newlines_line : (xs ys : List ℕ) → free 10 xs ≡ true → newlines (xs ++ (10 ∷ ys)) ≡ 1 + newlines ys
+newlines_line xs ys h = sum_by-append _ xs (10 ∷ ys) ∙ omega (arith, no_newlines xs h, sum_by-cons (λ x. cond (eqb x 10) 1 0) 10 ys)
 
 newlines_listing : (ws : List ℕ) → newlines (listing ws) ≡ length ws
 newlines_listing [] = refl

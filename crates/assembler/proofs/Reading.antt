@@ -1,6 +1,5 @@
 -- A line is read as the word that it spells, by its keyword and the numbers of its operands.
 use Rattle.std.proofs.Common.{◌≡◌, ℕ, zero, suc, ◌+◌, ◌*◌, ◌^◌, ◌<◌, ◌≤◌, Bool, true, false, ◌&&◌, eqb, ltb, ◌⊎◌, List, [], ◌∷◌, length, get_or, drop, Some, None, Ok, Err, Option, Result, sym, refl, ap, ◌∙◌, subst, inl, inr, ⊎_elim, arith}
-use Rattle.std.specs.List.{slice_get}
 use Rattle.std.proofs.lemmas.Bool.{and_parts, and_from, and_left, and_right, cases_Bool, cases_lt, eqb-true, eq-eqb, ne_eqb, lt-ltb, le-ltb, ltb-true, cond-true, cond-false}
 use Rattle.text.specs.declared.fault.Cause.{Cause}
 use Rattle.text.specs.declared.fault.Cause.TheVariants.{Spelling, Missing, Extra}
@@ -21,7 +20,7 @@ use Rattle.assembler.specs.Keywords.{spelling, base, slots, keyword_of}
 use Rattle.assembler.specs.Grammar.{Names, NamesEach}
 use Rattle.assembler.specs.Lines.{numbered, unless_alias, register_of, read_as, OperandRead, and_then, operands, from_keyword, from_fields, line_word}
 use Rattle.assembler.proofs.Keywording.{keyword_spelling, keyword_is}
-use Rattle.assembler.proofs.Slotting.{all_small, small, at_nth, past_nth}
+use Rattle.assembler.proofs.Slotting.{all_small, small}
 
 apart : {X Y : Type 0} (x : X) (y : Y) → Err x ≡ Ok y → ⊥
 apart x y e = let z : ◌≡◌ {A = ℕ} 0 1 = cc in omega arith
@@ -99,33 +98,33 @@ names_read (Number limit) field n h s = ap (number_up_to limit) s.digits ∙ num
 -- one turn of the loop over a line's operands
 
 module _ (w k : ℕ) (due : List Slot) (fs : List (List ℕ)) where
-  split : (s : Slot) (f : List ℕ) (rest : List (List ℕ)) → slice_get due k ≡ Some s → fs ≡ f ∷ rest → operands (k + 2) w (drop k due) fs ≡ and_then (in_field (read_as s.kind f) (k + 2)) (λ v. operands (suc (k + 2)) (w + v * s.weight) (drop (k + 1) due) rest)
-  split s f rest e g = (λ i. operands (k + 2) w ((at_nth due k s e).1 i) (g i))
+  split : (s : Slot) (f : List ℕ) (rest : List (List ℕ)) → drop k due ≡ s ∷ drop (k + 1) due → fs ≡ f ∷ rest → operands (k + 2) w (drop k due) fs ≡ and_then (in_field (read_as s.kind f) (k + 2)) (λ v. operands (suc (k + 2)) (w + v * s.weight) (drop (k + 1) due) rest)
+  split s f rest e g = (λ i. operands (k + 2) w (e i) (g i))
 
-  pub one_more : (s : Slot) (f : List ℕ) (rest : List (List ℕ)) (v : ℕ) → slice_get due k ≡ Some s → fs ≡ f ∷ rest → read_as s.kind f ≡ Ok v → operands (k + 1 + 2) (w + v * s.weight) (drop (k + 1) due) rest ≡ operands (k + 2) w (drop k due) fs
+  pub one_more : (s : Slot) (f : List ℕ) (rest : List (List ℕ)) (v : ℕ) → drop k due ≡ s ∷ drop (k + 1) due → fs ≡ f ∷ rest → read_as s.kind f ≡ Ok v → operands (k + 1 + 2) (w + v * s.weight) (drop (k + 1) due) rest ≡ operands (k + 2) w (drop k due) fs
   one_more s f rest v e g r =
       let next : k + 1 + 2 ≡ suc (k + 2) = omega arith in
       ap (λ n. operands n (w + v * s.weight) (drop (k + 1) due) rest) next
       ∙ sym (split s f rest e g ∙ ap (λ x. and_then (in_field x (k + 2)) (λ v. operands (suc (k + 2)) (w + v * s.weight) (drop (k + 1) due) rest)) r)
 
-  pub wrong_one : (s : Slot) (f : List ℕ) (rest : List (List ℕ)) (cause : Cause) → slice_get due k ≡ Some s → fs ≡ f ∷ rest → read_as s.kind f ≡ Err cause → Err (at_field (k + 2) cause) ≡ operands (k + 2) w (drop k due) fs
+  pub wrong_one : (s : Slot) (f : List ℕ) (rest : List (List ℕ)) (cause : Cause) → drop k due ≡ s ∷ drop (k + 1) due → fs ≡ f ∷ rest → read_as s.kind f ≡ Err cause → Err (at_field (k + 2) cause) ≡ operands (k + 2) w (drop k due) fs
   wrong_one s f rest cause e g r = sym (split s f rest e g ∙ ap (λ x. and_then (in_field x (k + 2)) (λ v. operands (suc (k + 2)) (w + v * s.weight) (drop (k + 1) due) rest)) r)
 
-  pub too_few : (s : Slot) → slice_get due k ≡ Some s → fs ≡ [] → Err (at_field (k + 2) Missing) ≡ operands (k + 2) w (drop k due) fs
-  too_few s e g = sym (λ i. operands (k + 2) w ((at_nth due k s e).1 i) (g i))
+  pub too_few : (s : Slot) → drop k due ≡ s ∷ drop (k + 1) due → fs ≡ [] → Err (at_field (k + 2) Missing) ≡ operands (k + 2) w (drop k due) fs
+  too_few s e g = sym (λ i. operands (k + 2) w (e i) (g i))
 
-  pub too_many : slice_get due k ≡ None → 0 < length fs → Err (at_field (k + 2) Extra) ≡ operands (k + 2) w (drop k due) fs
-  too_many e some = sym (ap (λ ss. operands (k + 2) w ss fs) (past_nth due k e) ∙ extra fs some)
+  pub too_many : drop k due ≡ [] → 0 < length fs → Err (at_field (k + 2) Extra) ≡ operands (k + 2) w (drop k due) fs
+  too_many e some = sym (ap (λ ss. operands (k + 2) w ss fs) e ∙ extra fs some)
     where
       extra : (fs : List (List ℕ)) → 0 < length fs → operands (k + 2) w [] fs ≡ Err (at_field (k + 2) Extra)
       extra [] h = absurd (omega arith)
       extra (f ∷ fs) h = refl
 
-  pub just_all : slice_get due k ≡ None → fs ≡ [] → Ok w ≡ operands (k + 2) w (drop k due) fs
-  just_all e g = sym (λ i. operands (k + 2) w (past_nth due k e i) (g i))
+  pub just_all : drop k due ≡ [] → fs ≡ [] → Ok w ≡ operands (k + 2) w (drop k due) fs
+  just_all e g = sym (λ i. operands (k + 2) w (e i) (g i))
 
   -- an operand that was not read
-  pub stopped : (s : Slot) (after : List (List ℕ)) (fault : FieldFault) → slice_get due k ≡ Some s → OperandRead fs s.kind (k + 2) (Err fault) after → Err fault ≡ operands (k + 2) w (drop k due) fs
+  pub stopped : (s : Slot) (after : List (List ℕ)) (fault : FieldFault) → drop k due ≡ s ∷ drop (k + 1) due → OperandRead fs s.kind (k + 2) (Err fault) after → Err fault ≡ operands (k + 2) w (drop k due) fs
   stopped s after fault e (inl (none, is)) = ap Err is ∙ too_few s e none
   stopped s after fault e (inr (f, cut, (cause, read, is))) = ap Err is ∙ wrong_one s f after cause e cut read
 

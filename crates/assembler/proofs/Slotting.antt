@@ -1,6 +1,5 @@
 -- The places of a keyword's operands, one after another, and the room that they take in a word.
-use Rattle.std.proofs.Common.{◌≡◌, ℕ, zero, suc, ◌+◌, ◌*◌, ◌^◌, ◌<◌, ◌≤◌, Bool, true, ◌&&◌, ltb, leb, List, [], ◌∷◌, length, drop, Some, None, refl, ap, ◌∙◌, mul-le-mul_right, add-one, arith}
-use Rattle.std.specs.List.{slice_get}
+use Rattle.std.proofs.Common.{◌≡◌, ℕ, ◌+◌, ◌*◌, ◌^◌, ◌<◌, ◌≤◌, Bool, true, ◌&&◌, ltb, leb, List, [], ◌∷◌, length, refl, mul-le-mul_right, arith}
 use Rattle.std.proofs.lemmas.Bool.{and_parts, ltb-true, leb-true}
 use Rattle.u5.specs.declared.operation.Slot.{Slot}
 use Rattle.u5.specs.Operations.{largest, every}
@@ -35,18 +34,6 @@ small k = (and_parts (all_small (slots k)) (leb (length (slots k)) 3) (and_parts
 
 pub few : (k : Keyword) → length (slots k) ≤ 3
 few k = leb-true (length (slots k)) 3 (and_parts (all_small (slots k)) (leb (length (slots k)) 3) (and_parts (ltb (base k + room (slots k)) (2 ^ 32)) _ (each_keyword fitting all_fitting k)).1).1
-
--- what stands at a place, and after it
-pub at_nth : {X : Type 0} (xs : List X) (k : ℕ) (x : X) → slice_get xs k ≡ Some x → (k < length xs) × (drop k xs ≡ x ∷ drop (k + 1) xs)
-at_nth [] k x e = let z : ◌≡◌ {A = ℕ} 0 1 = cc in absurd (omega arith)
-at_nth (y ∷ xs) zero x e = let s : y ≡ x = cc in (omega arith, ap (λ z. z ∷ xs) s)
-at_nth (y ∷ xs) (suc k) x e = let r = at_nth xs k x e in (omega arith, rw (add-one (suc k)) (r.1 ∙ ap (λ n. x ∷ drop n xs) (add-one k)))
-
-pub past_nth : {X : Type 0} (xs : List X) (k : ℕ) → slice_get xs k ≡ None → drop k xs ≡ []
-past_nth [] zero e = refl
-past_nth [] (suc k) e = refl
-past_nth (y ∷ xs) zero e = let z : ◌≡◌ {A = ℕ} 0 1 = cc in absurd (omega arith)
-past_nth (y ∷ xs) (suc k) e = past_nth xs k e
 
 -- one operand more
 pub room_more : (w v : ℕ) (s : Slot) (ss : List Slot) → w + room (s ∷ ss) < 2 ^ 32 → v ≤ largest s.kind → (w + v * s.weight) + room ss < 2 ^ 32

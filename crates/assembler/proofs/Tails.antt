@@ -1,6 +1,5 @@
 -- The operands of a listed line, one after another, and how long such a line can be.
-use Rattle.std.proofs.Common.{◌≡◌, ℕ, zero, suc, ◌+◌, ◌/◌, ◌^◌, ◌<◌, ◌≤◌, Bool, true, cond, ◌&&◌, ltb, leb, List, [], ◌∷◌, ◌++◌, length, get_or, drop, Some, None, refl, ap, arith, length-append}
-use Rattle.std.specs.List.{slice_get}
+use Rattle.std.proofs.Common.{◌≡◌, ℕ, zero, suc, ◌+◌, ◌/◌, ◌^◌, ◌<◌, ◌≤◌, Bool, true, cond, ◌&&◌, ltb, leb, List, [], ◌∷◌, ◌++◌, length, get_or, drop, sym, refl, ap, ◌∙◌, append_assoc, arith, length-append}
 use Rattle.std.proofs.lemmas.Nat.{mod_below}
 use Rattle.std.proofs.lemmas.Bool.{and_parts, leb-true, ltb-true, cond_both}
 use Rattle.std.proofs.lemmas.Fmt.{length-decimal-le}
@@ -17,14 +16,21 @@ use Rattle.assembler.specs.declared.keyword.Keyword.{Keyword}
 use Rattle.assembler.specs.declared.keyword.Keyword.TheVariants.{Of}
 use Rattle.assembler.specs.Keywords.{spelling, slots}
 use Rattle.assembler.specs.Listing.{operand_text, tail}
+use Rattle.assembler.specs.declared.writer.Writer.{Writer}
+use Rattle.assembler.specs.Writes.{Writes}
+use Rattle.assembler.proofs.Writing.{writes_then, room_left}
 use Rattle.assembler.proofs.Keywording.{Passes, each_keyword}
-use Rattle.assembler.proofs.Slotting.{all_small, small, at_nth, past_nth}
+use Rattle.assembler.proofs.Slotting.{all_small, small}
 
-pub tail_more : (ss : List Slot) (k w : ℕ) (s : Slot) → slice_get ss k ≡ Some s → tail (drop k ss) w ≡ 9 ∷ (operand_text s.kind (part s w) ++ tail (drop (k + 1) ss) w)
-tail_more ss k w s e = ap (λ l. tail l w) (at_nth ss k s e).1
+-- one operand more, after a tab
+module _ {first before : Writer} {p : List ℕ} (due : List Slot) (k word : ℕ) (s : Slot) (rest : List Slot) (here : drop k due ≡ s ∷ rest) (so_far : Writes first p before) (split : p ++ tail (drop k due) word ≡ tail due word) where
+  pub operand_room : first.end + length (tail due word) ≤ length first.out.now → before.end + (1 + length (operand_text s.kind (part s word))) ≤ length before.out.now
+  operand_room h = omega (arith, room_left (tail (drop k due) word) (tail due word) so_far split h, ap (λ ss. length (tail ss word)) here, length-append (operand_text s.kind (part s word)) (tail rest word))
 
-pub tail_none : (ss : List Slot) (k w : ℕ) → slice_get ss k ≡ None → tail (drop k ss) w ≡ []
-tail_none ss k w e = ap (λ l. tail l w) (past_nth ss k e)
+  pub operand_more : {after : Writer} → Writes before (9 ∷ operand_text s.kind (part s word)) after → (q : List ℕ) × Writes first q after × (q ++ tail rest word ≡ tail due word)
+  operand_more put =
+      let t = 9 ∷ operand_text s.kind (part s word) in
+      (p ++ t, writes_then so_far put, append_assoc p t (tail rest word) ∙ ap (λ ss. p ++ tail ss word) (sym here) ∙ split)
 
 -- widths
 

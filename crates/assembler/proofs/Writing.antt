@@ -3,11 +3,9 @@ use Rattle.std.proofs.Common.{◌≡◌, ℕ, ◌+◌, ◌-◌, ◌/◌, ◌%◌
 use Rattle.std.proofs.lemmas.List.{drop-drop}
 use Rattle.std.proofs.lemmas.Fmt.{decimal_digit, decimal_step}
 use Rattle.text.specs.Numerals.{spelled}
-use Rattle.assembler.specs.Writes.{Appended}
+use Rattle.assembler.specs.declared.writer.Writer.{Writer}
+use Rattle.assembler.specs.Writes.{Appended, Writes}
 use Rattle.text.proofs.Spelling.{spelled_is}
-
-pub nothing : (out : List ℕ) (at : ℕ) → Appended out at [] out at
-nothing out at = record { size = refl; till = omega arith; front = sym (append-nil (take at out)); rest = refl }
 
 pub then : {out mid last : List ℕ} {at e₁ e₂ : ℕ} {p q : List ℕ} → Appended out at p mid e₁ → Appended mid e₁ q last e₂ → Appended out at (p ++ q) last e₂
 then {out} {mid} {last} {at} {e₁} {e₂} {p} {q} a b =
@@ -17,6 +15,22 @@ then {out} {mid} {last} {at} {e₁} {e₂} {p} {q} a b =
       till = omega (arith, a.till, b.till, length-append p q);
       front = b.front ∙ ap (λ l. l ++ q) a.front ∙ append_assoc (take at out) p q;
       rest = b.rest ∙ ap (λ n. drop n mid) (sym more) ∙ sym (drop-drop (e₂ - e₁) e₁ mid) ∙ ap (drop (e₂ - e₁)) a.rest ∙ drop-drop (e₂ - e₁) e₁ out ∙ ap (λ n. drop n out) more;
+    }
+
+pub nothing : (w : Writer) → Writes w [] w
+nothing w = record { written = record { size = refl; till = omega arith; front = sym (append-nil (take w.end w.out.now)); rest = refl }; lender = refl }
+
+pub writes_then : {w₁ w₂ w₃ : Writer} {p q : List ℕ} → Writes w₁ p w₂ → Writes w₂ q w₃ → Writes w₁ (p ++ q) w₃
+writes_then a b = record { written = then a.written b.written; lender = b.lender ∙ a.lender }
+
+-- what the lender of a buffer gets back
+pub lent_back : {first last : Writer} {out piece after : List ℕ} {end : ℕ} → first.out.now ≡ out → first.end ≡ 0 → Writes first piece last → after ≡ last.out.now → end ≡ last.end → Appended out 0 piece after end
+lent_back {first} {last} {out} {piece} {after} {end} starts front w back place =
+    record {
+      size = ap length back ∙ w.written.size ∙ ap length starts;
+      till = omega (arith, w.written.till);
+      front = (λ i. take (place i) (back i)) ∙ w.written.front ∙ (λ i. take (front i) (starts i) ++ piece);
+      rest = (λ i. drop (place i) (back i)) ∙ w.written.rest ∙ (λ i. drop (sym place i) (starts i));
     }
 
 pub spelled_digit : (n : ℕ) → n < 10 → spelled n ≡ (48 + n % 10) ∷ []
@@ -29,5 +43,5 @@ pub length_step : (n : ℕ) → 10 ≤ n → n < 2 ^ 32 → length (spelled n) �
 length_step n h l = ap length (spelled_step n h l) ∙ length-append (spelled (n / 10)) ((48 + n % 10) ∷ [])
 
 -- what is yet to be written has room
-pub room_left : (out : List ℕ) (at : ℕ) (p t whole mid : List ℕ) (end : ℕ) → Appended out at p mid end → p ++ t ≡ whole → at + length whole ≤ length out → end + length t ≤ length mid
-room_left out at p t whole mid end a e h = omega (arith, a.till, a.size, length-append p t, ap length e)
+pub room_left : {w₁ w₂ : Writer} {p : List ℕ} (t whole : List ℕ) → Writes w₁ p w₂ → p ++ t ≡ whole → w₁.end + length whole ≤ length w₁.out.now → w₂.end + length t ≤ length w₂.out.now
+room_left {w₁} {w₂} {p} t whole a e h = omega (arith, a.written.till, a.written.size, length-append p t, ap length e)

@@ -1,5 +1,6 @@
 -- What assemble answers, and what the buffer holds then.
-use Rattle.std.specs.Prelude.{◌≡◌, ℕ, ◌+◌, ◌*◌, ◌<◌, ◌≤◌, cond, ◌⊎◌, List, [], ◌∷◌, length, Ok, Err, Result, ◌==◌}
+use Rattle.std.specs.Prelude.{◌≡◌, ℕ, ◌*◌, ◌<◌, ◌≤◌, ◌⊎◌, List, length, Ok, Err, Result}
+use Rattle.text.specs.Pieces.{newlines}
 use Rattle.assembler.specs.declared.assembler.AssembleRefusal.{AssembleRefusal}
 use Rattle.assembler.specs.declared.assembler.AssembleRefusal.TheVariants.{TooLong, Form, Room}
 use Rattle.assembler.specs.Programs.{SpellsText, FirstFault}
@@ -11,10 +12,6 @@ abbrev pub assemble_refusal_number : AssembleRefusal → ℕ
 assemble_refusal_number TooLong = 7
 assemble_refusal_number (Form fault) = 8
 assemble_refusal_number Room = 9
-
-abbrev pub newlines : List ℕ → ℕ
-newlines [] = 0
-newlines (c ∷ cs) = cond (c == 10) (1 + newlines cs) (newlines cs)
 
 -- the largest text: 65,536 bytes and 3,328 newlines
 pub record WithinLimits (text : List ℕ) : Type 0 where

@@ -1,19 +1,20 @@
 // From a text to words.
 ghost use Rattle.std.specs.Prelude.{◌≡◌, ℕ, ◌*◌, ◌≤◌, true, List, length, is_ok, IfOk, Ok};
 ghost use Rattle.text.specs.Pieces.{pieces};
-ghost use Rattle.assembler.specs.Assembly.{newlines, WithinLimits, Assembles, assemble_refusal_number};
+ghost use Rattle.assembler.specs.declared.assembler.AssembleRefusal.TheVariants.{Form};
+ghost use Rattle.assembler.specs.Assembly.{WithinLimits, Assembles, assemble_refusal_number};
 ghost use Rattle.assembler.specs.Grammar.{Spells};
 ghost use Rattle.assembler.specs.Programs.{SpellsText};
 ghost use Rattle.assembler.specs.Texts.{words_from, counted, words_of, bytes};
 ghost use Rattle.assembler.specs.Writes.{Appended};
 
 use crate::line::read_line;
-use crate::writer::append;
+use crate::writer::Writer;
 use text::fault::{Fault, on_line};
-use text::lines::LineReader;
+use text::lines::{LineReader, count_newlines};
 
 // Why a text is not assembled.
-#[derive(Clone, Copy)]
+#[derive(Clone, Copy, PartialEq, Eq, Debug)]
 pub enum AssembleRefusal {
     // over 65,536 bytes or over 3,328 newlines
     TooLong,
@@ -21,6 +22,14 @@ pub enum AssembleRefusal {
     Form(Fault),
     // fewer than 4 output bytes a word
     Room,
+}
+
+impl From<Fault> for AssembleRefusal {
+    ghost from_gives = { λ fault refusal. refusal ≡ Form fault };
+
+    fn from(fault: Fault) -> AssembleRefusal {
+        AssembleRefusal::Form(fault)
+    }
 }
 
 impl AssembleRefusal {
@@ -33,18 +42,6 @@ impl AssembleRefusal {
             AssembleRefusal::Room => 9,
         }
     }
-}
-
-fn count_newlines(text: &[u8]) -> usize
-    ensures { result ≡ newlines text.now }
-{
-    let mut count = 0;
-    for c in text {
-        if *c == b'\n' {
-            count += 1;
-        }
-    }
-    count
 }
 
 // How many words `text` spells.
@@ -68,17 +65,12 @@ fn write_words(text: &[u8], out: &mut [u8]) -> usize
     ensures { Appended out.old 0 (bytes (words_of (words_from 1 (pieces 10 text.now)))) out.new result }
 {
     let mut lines = LineReader::new(text);
-    let mut end = 0;
-    loop {
-        let Ok(next) = lines.line() else {
-            unreachable()
-        };
-        let Some(line) = next else { return end };
-        match read_line(line) {
-            Ok(word) => end = append(out, end, &word.to_be_bytes()),
-            Err(_) => unreachable(),
-        }
+    let mut writer = Writer::new(out);
+    while let Some(line) = lines.line().unwrap() {
+        let word = read_line(line).unwrap();
+        writer.piece(&word.to_be_bytes());
     }
+    writer.end()
 }
 
 // Assembles `text` into `out`, and says how many bytes were written.
@@ -99,13 +91,9 @@ fn assemble_text(text: &[u8], out: &mut [u8]) -> Result<usize, AssembleRefusal>
     if text.len() > 65536 || count_newlines(text) > 3328 {
         return Err(AssembleRefusal::TooLong);
     }
-    match count_words(text) {
-        Err(fault) => Err(AssembleRefusal::Form(fault)),
-        Ok(words) => {
-            if out.len() / 4 < words {
-                return Err(AssembleRefusal::Room);
-            }
-            Ok(write_words(text, out))
-        }
+    let words = count_words(text)?;
+    if out.len() / 4 < words {
+        return Err(AssembleRefusal::Room);
     }
+    Ok(write_words(text, out))
 }

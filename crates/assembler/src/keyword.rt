@@ -1,10 +1,15 @@
 // What a line begins with: an operation, or WORD.
-ghost use Rattle.std.specs.Prelude.{◌≡◌, ◌^◌, ◌<◌, IfSome};
-ghost use Rattle.std.specs.List.{slice_get};
+ghost use Rattle.std.specs.Prelude.{◌≡◌, ◌<◌, All};
 ghost use Rattle.assembler.specs.Keywords.{spelling, base, slots, keyword_of};
 
 use text::fault::Cause;
 use u5::operation::{Kind, Operation, Slot};
+
+// The word as a number.
+const WHOLE: Slot = Slot {
+    kind: Kind::Number(u32::MAX),
+    weight: 1,
+};
 
 // An operation, or WORD, which gives a word as a number.
 #[derive(Clone, Copy)]
@@ -33,22 +38,14 @@ impl Keyword {
         }
     }
 
-    // The place of the operand `k`, counted from 0.
-    pub(crate) fn slot(self, k: usize) -> Option<Slot>
-        ensures place { result ≡ slice_get (slots self) k }
-        ensures weighs { IfSome result (λ s. 0 < s.weight) }
+    // The places of the operands, in order.
+    pub(crate) fn slots(self) -> &'static [Slot]
+        ensures value { result.now ≡ slots self }
+        ensures weigh { All (λ s. 0 < s.weight) result.now }
     {
         match self {
-            Keyword::Of(operation) => operation.slot(k),
-            Keyword::Word => {
-                if k > 0 {
-                    return None;
-                }
-                Some(Slot {
-                    kind: Kind::Number(u32::MAX),
-                    weight: 1,
-                })
-            }
+            Keyword::Of(operation) => operation.slots(),
+            Keyword::Word => &[WHOLE],
         }
     }
 
@@ -58,9 +55,8 @@ impl Keyword {
         if field == Keyword::Word.spelling() {
             return Ok(Keyword::Word);
         }
-        match Operation::named(field) {
-            Some(operation) => Ok(Keyword::Of(operation)),
-            None => Err(Cause::Spelling),
-        }
+        Operation::named(field)
+            .map(Keyword::Of)
+            .ok_or(Cause::Spelling)
     }
 }

@@ -4,7 +4,7 @@ ghost use Rattle.assembler.specs.Lines.{line_word};
 
 use crate::keyword::Keyword;
 use crate::operand::read_operand;
-use text::fault::{FieldFault, in_field};
+use text::fault::FieldFault;
 use text::fields::FieldReader;
 
 // The word that `line` spells, and where it spells none, its first wrong field.
@@ -12,15 +12,13 @@ pub(crate) fn read_line(line: &[u8]) -> Result<u32, FieldFault>
     ensures { result ≡ line_word line.now }
 {
     let mut fields = FieldReader::new(line);
-    let first = fields.field(1)?;
-    let keyword = in_field(Keyword::read(first), 1)?;
+    let keyword = fields.read(1, Keyword::read)?;
+    let slots = keyword.slots();
     let mut word = keyword.base();
-    let mut k = 0;
-    while let Some(slot) = keyword.slot(k) {
+    for (k, slot) in slots.iter().enumerate() {
         let value = read_operand(&mut fields, slot.kind, k + 2)?;
         word += value * slot.weight;
-        k += 1;
     }
-    fields.end(k + 2)?;
+    fields.end(slots.len() + 2)?;
     Ok(word)
 }

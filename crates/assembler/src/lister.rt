@@ -6,10 +6,11 @@ ghost use Rattle.assembler.specs.Lists.{Lists, OneLine, list_refusal_number};
 ghost use Rattle.assembler.specs.Programs.{SpellsText};
 ghost use Rattle.assembler.specs.Writes.{Appended};
 
-use crate::listing::list_word;
+use crate::listing::write_line;
+use crate::writer::Writer;
 
 // Why words are not listed.
-#[derive(Clone, Copy)]
+#[derive(Clone, Copy, PartialEq, Eq, Debug)]
 pub enum ListRefusal {
     // over 13,312 bytes
     TooLong,
@@ -35,13 +36,11 @@ fn write_lines(words: &[u8], out: &mut [u8]) -> usize
     requires { 19 * (length words.now / 4) ≤ length out.old }
     ensures { Appended out.old 0 (listing (words_at words.now)) out.new result }
 {
-    let mut end = 0;
-    for k in 0..words.len() / 4 {
-        let i = 4 * k;
-        let word = u32::from_be_bytes([words[i], words[i + 1], words[i + 2], words[i + 3]]);
-        end = list_word(out, end, word);
+    let mut writer = Writer::new(out);
+    for word in words.as_chunks::<4>().0 {
+        write_line(&mut writer, u32::from_be_bytes(*word));
     }
-    end
+    writer.end()
 }
 
 // Lists `words`, four bytes each, into `out`, and says how many bytes were written: a line a word, which assembles to the word.

@@ -4,10 +4,10 @@ ghost use Rattle.u5.specs.Operations.{largest};
 ghost use Rattle.u5.specs.Slots.{part};
 ghost use Rattle.assembler.specs.Keywords.{slots};
 ghost use Rattle.assembler.specs.Listing.{operand_text, tail, listed_as, listed};
-ghost use Rattle.assembler.specs.Writes.{Appended};
+ghost use Rattle.assembler.specs.Writes.{Writes, reach};
 
 use crate::keyword::Keyword;
-use crate::writer::{append, append_number};
+use crate::writer::Writer;
 use u5::instruction::Instruction;
 use u5::operand::Register;
 use u5::operation::{Kind, Slot};
@@ -30,48 +30,39 @@ fn listed_as(word: u32) -> Keyword
     ensures { result ≡ listed_as word }
 {
     match Instruction::decode(word) {
-        Some(instruction) => {
-            if instruction.encode() == word {
-                return Keyword::Of(instruction.operation());
-            }
-            Keyword::Word
-        }
-        None => Keyword::Word,
+        Some(instruction) if instruction.encode() == word => Keyword::Of(instruction.operation()),
+        _ => Keyword::Word,
     }
 }
 
-fn append_operand(out: &mut [u8], at: usize, kind: Kind, n: u32) -> usize
+fn write_operand(writer: &mut Writer, kind: Kind, n: u32)
     requires fits { n ≤ largest kind }
-    requires room { at + length (operand_text kind n) ≤ length out.old }
-    ensures { Appended out.old at (operand_text kind n) out.new result }
+    requires room { reach writer.old (operand_text kind n) ≤ length writer.old.out.now }
+    ensures { Writes writer.old (operand_text kind n) writer.new }
 {
     match kind {
-        Kind::Register => append(out, at, Register { number: n as u8 }.alias()),
-        Kind::Number(_) => append_number(out, at, n),
+        Kind::Register => writer.piece(Register { number: n as u8 }.alias()),
+        Kind::Number(_) => writer.number(n),
     }
 }
 
-fn append_operands(out: &mut [u8], at: usize, keyword: Keyword, word: u32) -> usize
-    requires { at + length (tail (slots keyword) word) ≤ length out.old }
-    ensures { Appended out.old at (tail (slots keyword) word) out.new result }
+fn write_operands(writer: &mut Writer, keyword: Keyword, word: u32)
+    requires { reach writer.old (tail (slots keyword) word) ≤ length writer.old.out.now }
+    ensures { Writes writer.old (tail (slots keyword) word) writer.new }
 {
-    let mut end = at;
-    let mut k = 0;
-    while let Some(slot) = keyword.slot(k) {
-        end = append(out, end, b"\t");
-        end = append_operand(out, end, slot.kind, part_of(slot, word));
-        k += 1;
+    for slot in keyword.slots() {
+        writer.piece(b"\t");
+        write_operand(writer, slot.kind, part_of(*slot, word));
     }
-    end
 }
 
-// Writes the line of `word`, with its newline, from `at` on, and says where it ends.
-pub(crate) fn list_word(out: &mut [u8], at: usize, word: u32) -> usize
-    requires { at + 19 ≤ length out.old }
-    ensures { Appended out.old at (listed word ++ (10 ∷ [])) out.new result }
+// Writes the line of `word`, with its newline.
+pub(crate) fn write_line(writer: &mut Writer, word: u32)
+    requires { writer.old.end + 19 ≤ length writer.old.out.now }
+    ensures { Writes writer.old (listed word ++ (10 ∷ [])) writer.new }
 {
     let keyword = listed_as(word);
-    let spelled = append(out, at, keyword.spelling());
-    let end = append_operands(out, spelled, keyword, word);
-    append(out, end, b"\n")
+    writer.piece(keyword.spelling());
+    write_operands(writer, keyword, word);
+    writer.piece(b"\n");
 }

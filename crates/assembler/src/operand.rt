@@ -4,7 +4,7 @@ ghost use Rattle.text.specs.Readers.{fields_left};
 ghost use Rattle.u5.specs.Operations.{largest};
 ghost use Rattle.assembler.specs.Lines.{register_of, read_as, OperandRead};
 
-use text::fault::{Cause, FieldFault, in_field};
+use text::fault::{Cause, FieldFault};
 use text::fields::FieldReader;
 use text::number::read_number;
 use u5::operand::Register;
@@ -45,6 +45,5 @@ pub(crate) fn read_operand(
     ensures reads { OperandRead (fields_left fields.old) kind number result (fields_left fields.new) }
     ensures bound { IfOk result (λ n. n ≤ largest kind) }
 {
-    let field = fields.field(number)?;
-    in_field(read_as(kind, field), number)
+    fields.read(number, |field| read_as(kind, field))
 }

@@ -1,27 +1,51 @@
-// Bytes written one after another into a buffer.
-ghost use Rattle.std.specs.Prelude.{◌+◌, ◌≤◌, length};
+// Bytes written one after another into a lent buffer.
+ghost use Rattle.std.specs.Prelude.{◌≡◌, ◌≤◌, length};
 ghost use Rattle.text.specs.Numerals.{spelled};
-ghost use Rattle.assembler.specs.Writes.{Appended};
+ghost use Rattle.assembler.specs.Writes.{Writes, reach};
 
-// Writes `piece` from `at` on, and says where it ends.
-pub(crate) fn append(out: &mut [u8], at: usize, piece: &[u8]) -> usize
-    requires { at + length piece.now ≤ length out.old }
-    ensures { Appended out.old at piece.now out.new result }
-{
-    let end = at + piece.len();
-    out[at..end].copy_from_slice(piece);
-    end
+// A buffer, and where the next piece begins.
+#[derive(Drop)]
+pub(crate) struct Writer<'a> {
+    out: &'a mut [u8],
+    end: usize,
 }
 
-// Writes the digits of `n` from `at` on, and says where they end.
-pub(crate) fn append_number(out: &mut [u8], at: usize, n: u32) -> usize
-    requires { at + length (spelled n) ≤ length out.old }
-    ensures { Appended out.old at (spelled n) out.new result }
-{
-    let last = [b'0' + (n % 10) as u8];
-    if n < 10 {
-        return append(out, at, &last);
+impl<'a> Writer<'a> {
+    // It begins at the front. The name says that the lender gets the buffer back as the writer leaves it.
+    pub(crate) fn new(out: &'a mut [u8]) -> Writer<'a>
+        ensures same { result.out.now ≡ out.old }
+        ensures front { result.end ≡ 0 }
+        ensures lender { result.out.ghost_name ≡ out.entry.ghost_name }
+    {
+        Writer { out, end: 0 }
     }
-    let end = append_number(out, at, n / 10);
-    append(out, end, &last)
+
+    // Where the last piece ends.
+    pub(crate) fn end(&self) -> usize
+        ensures { result ≡ self.now.end }
+    {
+        self.end
+    }
+
+    pub(crate) fn piece(&mut self, piece: &[u8])
+        requires { reach self.old piece.now ≤ length self.old.out.now }
+        ensures { Writes self.old piece.now self.new }
+    {
+        let end = self.end + piece.len();
+        self.out[self.end..end].copy_from_slice(piece);
+        self.end = end;
+    }
+
+    // The digits of `n`.
+    pub(crate) fn number(&mut self, n: u32)
+        requires { reach self.old (spelled n) ≤ length self.old.out.now }
+        ensures { Writes self.old (spelled n) self.new }
+    {
+        let last = [b'0' + (n % 10) as u8];
+        if n < 10 {
+            return self.piece(&last);
+        }
+        self.number(n / 10);
+        self.piece(&last);
+    }
 }

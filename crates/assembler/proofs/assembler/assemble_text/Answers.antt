@@ -1,40 +1,32 @@
 use Rattle.std.proofs.Common.{Ok, refl, ap, arith}
-use Rattle.assembler.proofs.Assembling.{as_many, reads, four_each, crowded, assembled, fault_spells_none}
+use Rattle.std.proofs.lemmas.Result.{err_from_is_err_and}
+use Rattle.assembler.proofs.Assembling.{as_many, four_each, crowded, assembled, fault_spells_none}
 use Rattle.assembler.proofs.Programming.{fault_told}
 use Rattle.assembler.proofs.assembler.assemble_text.Goals as goal
 
-pub returns-then-out-words : goal.returns-then-out-words
-returns-then-out-words c =
+pub returns-in_err-words-clause-assembles : goal.returns-in_err-words-clause-assembles
+returns-in_err-words-clause-assembles c =
     let text = c.args.text.now in
-    let counted = c.in-Ok.ensures in
-    record {
-      assembles = (record { short = c.if-text-gt65536.false; few = omega arith }, crowded text c.in-Ok.words counted c.args.out.now c.if-out-words.true, refl);
-      bound = tt;
-      accepts = λ ws limits s room. absurd (omega (arith, as_many text c.in-Ok.words counted ws s, c.if-out-words.true));
-    }
+    let p = err_from_is_err_and c.from_residual.result c.from_residual.ensures.1 in
+    rw (p.1, p.2) (record { short = c.if-text-gt65536.false; few = omega arith }, fault_told text c.in_err-words.field-0.0 c.in_err-words.ensures, refl)
 
-pub write_words-requires : goal.write_words-requires
-write_words-requires c =
-    let text = c.args.text.now in
-    let counted = c.in-Ok.ensures in
-    record { spells = reads text c.in-Ok.words counted; room = omega (arith, four_each text c.in-Ok.words counted) }
+pub returns-in_err-words-clause-accepts : goal.returns-in_err-words-clause-accepts
+returns-in_err-words-clause-accepts c ws limits s room = absurd (fault_spells_none c.args.text.now ws c.in_err-words.field-0.0 c.in_err-words.ensures s)
 
-pub returns-in-Err : goal.returns-in-Err
-returns-in-Err c =
-    let text = c.args.text.now in
-    let counted = c.in-Err.ensures in
-    record {
-      assembles = (record { short = c.if-text-gt65536.false; few = omega arith }, fault_told text c.in-Err.fault counted, refl);
-      bound = tt;
-      accepts = λ ws limits s room. absurd (fault_spells_none text ws c.in-Err.fault counted s);
-    }
+pub returns-then-out-words-clause-assembles : goal.returns-then-out-words-clause-assembles
+returns-then-out-words-clause-assembles c = (record { short = c.if-text-gt65536.false; few = omega arith }, crowded c.args.text.now c.in_ok-words.words c.in_ok-words.ensures c.args.out.now c.if-out-words.true, refl)
 
-pub returns-else-out-words : goal.returns-else-out-words
-returns-else-out-words c =
+pub returns-then-out-words-clause-accepts : goal.returns-then-out-words-clause-accepts
+returns-then-out-words-clause-accepts c ws limits s room = absurd (omega (arith, as_many c.args.text.now c.in_ok-words.words c.in_ok-words.ensures ws s, c.if-out-words.true))
+
+pub write_words-requires-clause-room : goal.write_words-requires-clause-room
+write_words-requires-clause-room c = omega (arith, four_each c.args.text.now c.in_ok-words.words c.in_ok-words.ensures)
+
+pub returns-clause-assembles : goal.returns-clause-assembles
+returns-clause-assembles c = assembled c.args.text.now c.in_ok-words.words c.in_ok-words.ensures c.args.out.now c.write_words.new.out c.write_words.result (record { short = c.if-text-gt65536.false; few = omega arith }) c.write_words.ensures
+
+pub returns-clause-accepts : goal.returns-clause-accepts
+returns-clause-accepts c ws limits s room =
     let text = c.args.text.now in
-    let counted = c.in-Ok.ensures in
-    record {
-      assembles = assembled text c.in-Ok.words counted c.args.out.now c.write_words.new.out c.write_words.result (record { short = c.if-text-gt65536.false; few = omega arith }) c.write_words.ensures;
-      bound = omega (arith, four_each text c.in-Ok.words counted, c.write_words.ensures.till, c.write_words.ensures.size);
-      accepts = λ ws limits s room. ap Ok (omega (arith, as_many text c.in-Ok.words counted ws s, four_each text c.in-Ok.words counted, c.write_words.ensures.till));
-    }
+    let counted = c.in_ok-words.ensures in
+    ap Ok (omega (arith, as_many text c.in_ok-words.words counted ws s, four_each text c.in_ok-words.words counted, c.write_words.ensures.till))

@@ -5,8 +5,8 @@ use Rattle.assembler.specs.Texts.{words_from, words_of, bytes}
 use Rattle.assembler.proofs.Counting.{Written}
 use Rattle.assembler.proofs.assembler.write_words.Given as goal
 
-abbrev pub invariant-loop-next : goal.invariant-loop-next
-invariant-loop-next l = Written l.initial.out (bytes (words_of (words_from 1 (pieces 10 l.text)))) l.out l.end (lines_left l.lines)
+abbrev pub invariant-loop-line : goal.invariant-loop-line
+invariant-loop-line l = Written l.initial.writer (bytes (words_of (words_from 1 (pieces 10 l.text)))) l.writer (lines_left l.lines)
 
-abbrev pub decreases-loop-next : goal.decreases-loop-next
-decreases-loop-next l = length (lines_left l.lines)
+abbrev pub decreases-loop-line : goal.decreases-loop-line
+decreases-loop-line l = length (lines_left l.lines)

@@ -1,29 +1,29 @@
-use Rattle.std.proofs.Common.{◌≡◌, ◌+◌, ◌*◌, [], ◌∷◌, ◌++◌, drop, sym, ap, ◌∙◌, subst, append-nil, arith}
+use Rattle.std.proofs.Common.{◌≡◌, ◌+◌, ◌∷◌, ◌++◌, [], get_or, drop, sym, refl, ap, ◌∙◌, subst, append-nil, arith, rules}
+use Rattle.std.specs.Int.{from_be_bytes, w32}
+use Rattle.std.proofs.lemmas.List.{drop_more, drop_all}
 use Rattle.assembler.specs.Listing.{listed, listing, words_at}
-use Rattle.assembler.specs.Writes.{Appended}
-use Rattle.assembler.proofs.Writing.{then}
-use Rattle.assembler.proofs.Rows.{words_more, words_none, listed_short, lines_more}
+use Rattle.assembler.specs.Writes.{Writes}
+use Rattle.assembler.proofs.Writing.{writes_then, lent_back}
+use Rattle.assembler.proofs.Rows.{words_in, words_chunked, listed_short, lines_more}
 use Rattle.assembler.proofs.lister.write_lines.Goals as goal
 
-pub loop-k-preserved : goal.loop-k-preserved
-loop-k-preserved c =
-    let w = c.loop-k.invariant.0 in
-    let xs = c.args.words.now in
-    let i = 4 * c.loop-k.k in
-    let word = c.from_be_bytes-word.result in
-    let step = words_more xs i (4 * (c.loop-k.k + 1)) (omega arith) (omega arith) in
-    let whole : w.0 ++ listing (word ∷ words_at (drop (4 * (c.loop-k.k + 1)) xs)) ≡ listing (words_at xs) =
-    ap (λ n. w.0 ++ listing (n ∷ words_at (drop (4 * (c.loop-k.k + 1)) xs))) c.from_be_bytes-word.ensures
-    ∙ ap (λ l. w.0 ++ listing l) (sym step)
-    ∙ w.2
-    in (
-      (w.0 ++ (listed word ++ (10 ∷ [])), then w.1 c.list_word-end.ensures, lines_more w.0 word (words_at (drop (4 * (c.loop-k.k + 1)) xs)) (listing (words_at xs)) whole),
-      omega (arith, c.loop-k.invariant.1, c.list_word-end.ensures.till, listed_short word),
+pub loop-word-preserved : goal.loop-word-preserved
+loop-word-preserved c =
+    let w = c.loop-word.invariant.0 in
+    let chunks = c.as_chunks.result.0.now in
+    let k = c.loop-word.word-index in
+    let word = from_be_bytes w32 (get_or chunks k []) in
+    let here : drop k chunks ≡ get_or chunks k [] ∷ drop (k + 1) chunks = drop_more chunks k [] c.loop-word-test.true in
+    let put = subst (λ n. Writes c.loop-word.writer (listed n ++ (10 ∷ [])) c.write_line.new.writer) c.from_be_bytes.ensures c.write_line.ensures in (
+      (w.0 ++ (listed word ++ (10 ∷ [])), writes_then w.1 put, lines_more w.0 word (words_in (drop (k + 1) chunks)) (listing (words_in chunks)) (ap (λ l. w.0 ++ listing (words_in l)) (sym here) ∙ w.2)),
+      omega (arith, c.loop-word.invariant.1, put.written.till, listed_short word),
     )
 
 pub returns : goal.returns
 returns c =
-    let w = c.loop-k.invariant.0 in
-    let none = words_none c.args.words.now (4 * c.loop-k.k) (omega arith) in
-    let whole : w.0 ≡ listing (words_at c.args.words.now) = sym (append-nil w.0) ∙ ap (λ l. w.0 ++ listing l) (sym none) ∙ w.2 in
-    subst (λ l. Appended c.args.out.now 0 l c.loop-k.out c.loop-k.end) whole w.1
+    let w = c.loop-word.invariant.0 in
+    let chunks = c.as_chunks.result.0.now in
+    let none = ap (λ l. listing (words_in l)) (drop_all c.loop-word.word-index chunks (omega arith)) in
+    let words = ap words_in c.as_chunks.ensures.front ∙ words_chunked _ c.args.words.now refl in
+    let whole : w.0 ≡ listing (words_at c.args.words.now) = sym (append-nil w.0) ∙ ap (λ l. w.0 ++ l) (sym none) ∙ w.2 ∙ ap listing words in
+    lent_back c.new-writer.ensures.same c.new-writer.ensures.front (subst (λ l. Writes c.new-writer.result l c.loop-word.writer) whole w.1) (search rules) c.end.ensures
