@@ -7,6 +7,8 @@ use station::answer::TallyRefusal;
 use station::unit::Station;
 use std::alloc::Global;
 use std::fmt::Write;
+use std::mem;
+use text::fault::Fault;
 
 // A call that a case makes. The memory has 2,048 bytes, and the disk 34 sectors, unless the call says otherwise.
 #[derive(Clone, Copy)]
@@ -29,14 +31,13 @@ pub enum Call {
 
 // A text in full: blanks stand for tabs, and semicolons for newlines.
 pub fn in_full(heap: Global, short: &str) -> anyhow::Result<Vec<u8>> {
-    let mut text = Vec::new(heap);
-    for c in short.as_bytes() {
-        let byte = match *c {
-            b' ' => b'\t',
-            b';' => b'\n',
-            other => other,
-        };
-        text.push(byte)?;
+    let mut text = short.as_bytes().to_vec(heap)?;
+    for c in text.iter_mut() {
+        match *c {
+            b' ' => *c = b'\t',
+            b';' => *c = b'\n',
+            _ => {}
+        }
     }
     Ok(text)
 }
@@ -48,9 +49,7 @@ pub fn sectors_with(heap: Global, program: &str) -> anyhow::Result<Vec<u8>> {
     if assemble(text.as_slice(), sectors.as_mut_slice()).is_err() {
         return Err(anyhow!("a program is not in form"));
     }
-    for _ in 512..17408 {
-        sectors.push(7)?;
-    }
+    sectors.resize(17408, 7)?;
     Ok(sectors)
 }
 
@@ -63,161 +62,133 @@ fn repeated(heap: Global, line: &[u8], count: usize) -> anyhow::Result<Vec<u8>> 
     Ok(text)
 }
 
-fn start<D: Writable, C: Console>(
-    station: &mut Station,
-    memory: &mut [u8],
-    disk: &D,
-    console: &C,
-    said: &mut String,
-) -> anyhow::Result<()> {
-    match station.start(memory, disk, console) {
-        Ok(()) => said.push_str("started")?,
-        Err(refusal) => {
-            let number = refusal.number();
-            write!(said, "refused {number}")?;
-        }
-    }
-    Ok(())
-}
-
-fn run<D: Writable, C: Console>(
-    station: &mut Station,
-    memory: &mut [u8],
-    disk: &mut D,
-    console: &mut C,
-    steps: u32,
-    said: &mut String,
-) -> anyhow::Result<()> {
-    match station.run(memory, disk, console, steps) {
-        Ok(answer) => {
-            let count = answer.count;
-            let name = answer.stop.name();
-            write!(said, "{count} {name}")?;
-        }
-        Err(refusal) => {
-            let number = refusal.number();
-            write!(said, "refused {number}")?;
-        }
-    }
-    Ok(())
-}
-
-fn feed<C: Console>(
-    station: &Station,
-    console: &mut C,
-    bytes: &[u8],
-    said: &mut String,
-) -> anyhow::Result<()> {
-    let went = station.feed(console, bytes);
-    write!(said, "fed {went}")?;
-    Ok(())
-}
-
-fn collect<C: Console>(
-    station: &Station,
-    console: &mut C,
-    buffer: &mut [u8],
-    said: &mut String,
-) -> anyhow::Result<()> {
-    let came = station.collect(console, buffer);
-    write!(said, "{came}:")?;
-    for byte in buffer.iter().take(came) {
-        said.push(char::from(*byte))?;
-    }
-    Ok(())
-}
-
-fn tally<D: Writable>(
-    station: &Station,
-    memory: &[u8],
-    disk: &D,
-    sheet: &[u8],
-    said: &mut String,
-) -> anyhow::Result<()> {
-    match station.tally(memory, disk, sheet) {
-        Ok(points) => write!(said, "{points} points")?,
-        Err(refusal) => say_untallied(refusal, said)?,
-    }
-    Ok(())
-}
-
-fn tally_in<D: Writable>(
+// A station at work on its memory, a disk and a console, and what its calls answered so far, as text.
+#[derive(Drop)]
+pub struct Bench<'a, D, C> {
     heap: Global,
-    station: &Station,
-    length: usize,
-    disk: &D,
-    said: &mut String,
-) -> anyhow::Result<()> {
-    let other = vec![in heap; 0u8; length]?;
-    tally(station, other.as_slice(), disk, b"", said)
+    station: Station,
+    memory: Vec<u8>,
+    disk: &'a mut D,
+    console: &'a mut C,
+    said: String,
 }
 
-// A form refusal carries its line, its field and its cause.
-fn say_untallied(refusal: TallyRefusal, said: &mut String) -> anyhow::Result<()> {
-    let number = refusal.number();
-    write!(said, "refused {number}")?;
-    if let TallyRefusal::Form(fault) = refusal {
-        let line = fault.line;
-        let field = fault.field;
-        let cause = fault.cause.name();
-        write!(said, " {line} {field} {cause}")?;
+impl<'a, D: Writable, C: Console> Bench<'a, D, C> {
+    pub fn new(
+        heap: Global,
+        length: usize,
+        disk: &'a mut D,
+        console: &'a mut C,
+    ) -> anyhow::Result<Bench<'a, D, C>> {
+        Ok(Bench {
+            heap,
+            station: Station::new(),
+            memory: vec![in heap; 0u8; length]?,
+            disk,
+            console,
+            said: String::new(heap),
+        })
     }
-    Ok(())
-}
 
-// Makes a call, and adds to the text what it answers.
-pub fn make<D: Writable, C: Console>(
-    heap: Global,
-    station: &mut Station,
-    memory: &mut [u8],
-    disk: &mut D,
-    console: &mut C,
-    call: Call,
-    said: &mut String,
-) -> anyhow::Result<()> {
-    match call {
-        Call::Start => start(station, memory, disk, console, said),
-        Call::StartIn(length) => {
-            let mut other = vec![in heap; 0u8; length]?;
-            start(station, other.as_mut_slice(), disk, console, said)
+    fn start(&mut self) -> anyhow::Result<()> {
+        let memory = self.memory.as_mut_slice();
+        match self.station.start(memory, self.disk, self.console) {
+            Ok(()) => self.said.push_str("started")?,
+            Err(refusal) => write!(self.said, "refused {}", refusal.number())?,
         }
-        Call::Run(steps) => run(station, memory, disk, console, steps, said),
-        Call::RunIn(length) => {
-            let mut other = vec![in heap; 0u8; length]?;
-            run(station, other.as_mut_slice(), disk, console, 1, said)
-        }
-        Call::Feed(bytes) => feed(station, console, bytes, said),
-        Call::Collect(length) => {
-            let mut buffer = vec![in heap; 0u8; length]?;
-            collect(station, console, buffer.as_mut_slice(), said)
-        }
-        Call::Tally(short) => {
-            let sheet = in_full(heap, short)?;
-            tally(station, memory, disk, sheet.as_slice(), said)
-        }
-        Call::TallyIn(length) => tally_in(heap, station, length, disk, said),
-        Call::TallyLines(count) => {
-            let sheet = repeated(heap, b"E\tHALT\t1\n", count)?;
-            tally(station, memory, disk, sheet.as_slice(), said)
-        }
+        Ok(())
     }
-}
 
-// Makes calls one after another, and parts what they answer by commas.
-pub fn make_all<D: Writable, C: Console>(
-    heap: Global,
-    memory: &mut [u8],
-    disk: &mut D,
-    console: &mut C,
-    calls: &[Call],
-) -> anyhow::Result<String> {
-    let mut station = Station::new();
-    let mut said = String::new(heap);
-    for (i, call) in calls.iter().enumerate() {
-        if i > 0 {
-            said.push_str(", ")?;
+    fn run(&mut self, steps: u32) -> anyhow::Result<()> {
+        let memory = self.memory.as_mut_slice();
+        match self.station.run(memory, self.disk, self.console, steps) {
+            Ok(answer) => write!(self.said, "{} {}", answer.count, answer.stop.name())?,
+            Err(refusal) => write!(self.said, "refused {}", refusal.number())?,
         }
-        make(heap, &mut station, memory, disk, console, *call, &mut said)?;
+        Ok(())
     }
-    Ok(said)
+
+    fn feed(&mut self, bytes: &[u8]) -> anyhow::Result<()> {
+        let went = self.station.feed(self.console, bytes);
+        write!(self.said, "fed {went}")?;
+        Ok(())
+    }
+
+    fn collect(&mut self, length: usize) -> anyhow::Result<()> {
+        let mut buffer = vec![in self.heap; 0u8; length]?;
+        let came = self.station.collect(self.console, buffer.as_mut_slice());
+        write!(self.said, "{came}:")?;
+        for byte in buffer.iter().take(came) {
+            self.said.push(char::from(*byte))?;
+        }
+        Ok(())
+    }
+
+    // A form refusal carries its line, its field and its cause.
+    fn tally(&mut self, sheet: &[u8]) -> anyhow::Result<()> {
+        let memory = self.memory.as_slice();
+        match self.station.tally(memory, self.disk, sheet) {
+            Ok(points) => write!(self.said, "{points} points")?,
+            Err(refusal) => {
+                write!(self.said, "refused {}", refusal.number())?;
+                if let TallyRefusal::Form(Fault { line, field, cause }) = refusal {
+                    write!(self.said, " {line} {field} {cause}")?;
+                }
+            }
+        }
+        Ok(())
+    }
+
+    // Another memory, of this length, takes the place of the one that is answered.
+    fn swap_memory(&mut self, length: usize) -> anyhow::Result<Vec<u8>> {
+        let other = vec![in self.heap; 0u8; length]?;
+        Ok(mem::replace(&mut self.memory, other))
+    }
+
+    // Makes a call, and adds to the text what it answers.
+    fn make(&mut self, call: Call) -> anyhow::Result<()> {
+        match call {
+            Call::Start => self.start(),
+            Call::StartIn(length) => {
+                let own = self.swap_memory(length)?;
+                let made = self.start();
+                self.memory = own;
+                made
+            }
+            Call::Run(steps) => self.run(steps),
+            Call::RunIn(length) => {
+                let own = self.swap_memory(length)?;
+                let made = self.run(1);
+                self.memory = own;
+                made
+            }
+            Call::Feed(bytes) => self.feed(bytes),
+            Call::Collect(length) => self.collect(length),
+            Call::Tally(short) => {
+                let sheet = in_full(self.heap, short)?;
+                self.tally(sheet.as_slice())
+            }
+            Call::TallyIn(length) => {
+                let own = self.swap_memory(length)?;
+                let made = self.tally(b"");
+                self.memory = own;
+                made
+            }
+            Call::TallyLines(count) => {
+                let sheet = repeated(self.heap, b"E\tHALT\t1\n", count)?;
+                self.tally(sheet.as_slice())
+            }
+        }
+    }
+
+    // Makes calls one after another, and parts what they answer by commas.
+    pub fn make_all(mut self, calls: &[Call]) -> anyhow::Result<String> {
+        for (i, call) in calls.iter().enumerate() {
+            if i > 0 {
+                self.said.push_str(", ")?;
+            }
+            self.make(*call)?;
+        }
+        Ok(self.said)
+    }
 }

@@ -1,73 +1,83 @@
 // Cases: a program, the calls that are made on it, and the answers that are due.
-use crate::bench::{Call, make_all, sectors_with};
+use crate::bench::{Bench, Call, sectors_with};
 use crate::verdict::judge;
 use console::Keyboard;
 use disk::ReadOnlyImage;
 use overlay::Overlay;
 
-// The answers are parted by commas: "started", the count and the stop of a run, "fed" and how many, how many were collected and these bytes, points, or "refused" and the number.
+// Its label, the program, the calls and what is due. The answers are parted by commas: "started", the count and the stop of a run, "fed" and how many, how many were collected and these bytes, points, or "refused" and the number.
 #[derive(Clone, Copy)]
-pub struct Case {
-    label: &'static str,
-    program: &'static str,
-    calls: &'static [Call],
-    due: &'static str,
-}
+pub struct Case(
+    pub &'static str,
+    pub &'static str,
+    pub &'static [Call],
+    pub &'static str,
+);
 
-pub fn expected(
-    label: &'static str,
-    program: &'static str,
-    calls: &'static [Call],
-    due: &'static str,
-) -> Case {
-    Case {
-        label,
-        program,
-        calls,
-        due,
-    }
-}
-
-// A program that is started and run once, and the sheet by which it is marked then.
+// A program that is started and run once, the sheet by which it is marked then, and what is due.
 #[derive(Clone, Copy)]
-pub struct Single {
-    label: &'static str,
-    program: &'static str,
-    sheet: &'static str,
-    due: &'static str,
-}
+pub struct Single(
+    pub &'static str,
+    pub &'static str,
+    pub &'static str,
+    pub &'static str,
+);
 
-pub fn marked(
-    label: &'static str,
-    program: &'static str,
-    sheet: &'static str,
-    due: &'static str,
-) -> Single {
-    Single {
-        label,
-        program,
-        sheet,
-        due,
-    }
+// What can be tried: how it is called, what was answered, and what is due.
+pub trait Trial {
+    fn label(&self) -> &'static str;
+
+    fn due(&self) -> &'static str;
+
+    fn answers(&self, rt: &HostRuntime) -> anyhow::Result<String>;
 }
 
 // What calls answer over an overlay and a keyboard.
 fn answers(rt: &HostRuntime, program: &str, calls: &[Call]) -> anyhow::Result<String> {
     let heap = rt.alloc();
     let bytes = sectors_with(heap, program)?;
-    let mut memory = vec![in heap; 0u8; 2048]?;
     let mut disk = Overlay::new(ReadOnlyImage::new(bytes.as_slice()));
     let mut keyboard = Keyboard::new(heap)?;
-    make_all(heap, memory.as_mut_slice(), &mut disk, &mut keyboard, calls)
+    Bench::new(heap, 2048, &mut disk, &mut keyboard)?.make_all(calls)
 }
 
-pub fn try_case(rt: &HostRuntime, c: Case) -> anyhow::Result<()> {
-    let said = answers(rt, c.program, c.calls)?;
-    judge(rt, c.label, said.as_str(), c.due)
+impl Trial for Case {
+    fn label(&self) -> &'static str {
+        self.0
+    }
+
+    fn due(&self) -> &'static str {
+        self.3
+    }
+
+    fn answers(&self, rt: &HostRuntime) -> anyhow::Result<String> {
+        answers(rt, self.1, self.2)
+    }
 }
 
-pub fn try_single(rt: &HostRuntime, c: Single) -> anyhow::Result<()> {
-    let calls = [Call::Start, Call::Run(1000), Call::Tally(c.sheet)];
-    let said = answers(rt, c.program, &calls)?;
-    judge(rt, c.label, said.as_str(), c.due)
+impl Trial for Single {
+    fn label(&self) -> &'static str {
+        self.0
+    }
+
+    fn due(&self) -> &'static str {
+        self.3
+    }
+
+    fn answers(&self, rt: &HostRuntime) -> anyhow::Result<String> {
+        let calls = [Call::Start, Call::Run(1000), Call::Tally(self.2)];
+        answers(rt, self.1, &calls)
+    }
+}
+
+pub fn try_one<T: Trial>(rt: &HostRuntime, case: &T) -> anyhow::Result<()> {
+    let said = case.answers(rt)?;
+    judge(rt, case.label(), said.as_str(), case.due())
+}
+
+pub fn try_table<T: Trial>(rt: &HostRuntime, table: &[T]) -> anyhow::Result<()> {
+    for case in table {
+        try_one(rt, case)?;
+    }
+    Ok(())
 }

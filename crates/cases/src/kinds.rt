@@ -1,5 +1,5 @@
 // Cases on other kinds of disk and console than an overlay and a keyboard.
-use crate::bench::{Call, make_all, sectors_with};
+use crate::bench::{Bench, Call, sectors_with};
 use crate::verdict::judge;
 use console::{Console, Keyboard, Script};
 use disk::{Image, ReadOnlyImage};
@@ -21,13 +21,12 @@ const REWRITE_DUE: &str = "started, 7 HALT, 3 points";
 fn try_example(rt: &HostRuntime) -> anyhow::Result<()> {
     let heap = rt.alloc();
     let mut sector = [0u8; 512];
-    sector[0..12].copy_from_slice(b"\x80\x60\x08\x20\xc8\x60\x00\x00\xf8\x00\x00\x00");
-    let mut memory = vec![in heap; 0u8; 65536]?;
+    sector[..12].copy_from_slice(b"\x80\x60\x08\x20\xc8\x60\x00\x00\xf8\x00\x00\x00");
     let mut paper = [0u8; 4096];
     let mut disk = Overlay::new(ReadOnlyImage::new(&sector));
     let mut console = Script::new(b"", &mut paper);
     let calls = [Call::Start, Call::Run(1_000_000), Call::Collect(4096)];
-    let said = make_all(heap, memory.as_mut_slice(), &mut disk, &mut console, &calls)?;
+    let said = Bench::new(heap, 65536, &mut disk, &mut console)?.make_all(&calls)?;
     judge(
         rt,
         "the exam's example prints A and answers 3 and HALT",
@@ -46,9 +45,8 @@ fn try_no_sector(
 ) -> anyhow::Result<()> {
     let heap = rt.alloc();
     let few = [0u8; 511];
-    let mut memory = vec![in heap; 0u8; 512]?;
     let mut disk = Overlay::new(ReadOnlyImage::new(&few));
-    let said = make_all(heap, memory.as_mut_slice(), &mut disk, keyboard, calls)?;
+    let said = Bench::new(heap, 512, &mut disk, keyboard)?.make_all(calls)?;
     judge(rt, label, said.as_str(), due)
 }
 
@@ -86,11 +84,10 @@ fn try_script(
 ) -> anyhow::Result<()> {
     let heap = rt.alloc();
     let bytes = sectors_with(heap, program)?;
-    let mut memory = vec![in heap; 0u8; 2048]?;
     let mut paper = [0u8; 1];
     let mut disk = Overlay::new(ReadOnlyImage::new(bytes.as_slice()));
     let mut script = Script::new(b"a", &mut paper);
-    let said = make_all(heap, memory.as_mut_slice(), &mut disk, &mut script, calls)?;
+    let said = Bench::new(heap, 2048, &mut disk, &mut script)?.make_all(calls)?;
     judge(rt, label, said.as_str(), due)
 }
 
@@ -124,16 +121,9 @@ fn first_of_second(sectors: &[u8]) -> &'static str {
 fn try_below(rt: &HostRuntime) -> anyhow::Result<()> {
     let heap = rt.alloc();
     let mut bytes = sectors_with(heap, REWRITE)?;
-    let mut memory = vec![in heap; 0u8; 2048]?;
     let mut keyboard = Keyboard::new(heap)?;
     let mut disk = Overlay::new(Image::new(bytes.as_mut_slice()));
-    let said = make_all(
-        heap,
-        memory.as_mut_slice(),
-        &mut disk,
-        &mut keyboard,
-        &REWRITE_CALLS,
-    )?;
+    let said = Bench::new(heap, 2048, &mut disk, &mut keyboard)?.make_all(&REWRITE_CALLS)?;
     judge(
         rt,
         "an overlay answers what was written",
@@ -147,16 +137,9 @@ fn try_below(rt: &HostRuntime) -> anyhow::Result<()> {
 fn try_image(rt: &HostRuntime) -> anyhow::Result<()> {
     let heap = rt.alloc();
     let mut bytes = sectors_with(heap, REWRITE)?;
-    let mut memory = vec![in heap; 0u8; 2048]?;
     let mut keyboard = Keyboard::new(heap)?;
     let mut disk = Image::new(bytes.as_mut_slice());
-    let said = make_all(
-        heap,
-        memory.as_mut_slice(),
-        &mut disk,
-        &mut keyboard,
-        &REWRITE_CALLS,
-    )?;
+    let said = Bench::new(heap, 2048, &mut disk, &mut keyboard)?.make_all(&REWRITE_CALLS)?;
     judge(
         rt,
         "an image answers what was written",
