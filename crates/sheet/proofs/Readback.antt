@@ -18,6 +18,7 @@ use Rattle.u5.proofs.Tables.{called_is}
 use Rattle.sheet.specs.declared.mark.Mark.{Mark}
 use Rattle.sheet.specs.declared.mark.Mark.TheVariants.{Word, Byte, Stored, Ends}
 use Rattle.sheet.specs.Grammar.{Fair, Tells, Tell, no_lines, one_line}
+use Rattle.sheet.specs.Marks.{points_of}
 use Rattle.sheet.specs.Lines.{and_then, at_least_one, points_in, spelled_ending, ending_in, with_rest, next, ended, last_points, word_mark, byte_mark, stored_mark, ends_mark, letter_of, by_letter, from_fields, line_mark, onward, with_line, marks_from}
 
 apart : {X E A : Type 0} {x : X} {e : E} → Err e ≡ Ok x → A
@@ -175,6 +176,16 @@ line_tells line m is =
     let a = both_ok (next letter_of 1 fs) (λ x. by_letter x.0 x.1) m is in
     let f = next_ok letter_of 1 fs a.0 a.1 in
     subst (λ (l : List (List ℕ)). Tells l m) (sym (f.2 ∙ ap (λ x. x ∷ a.0.1) (one_letter f.0 a.0.0 f.1))) (letter_ok a.0.0 a.0.1 m a.2)
+
+fair_points : (fs : List (List ℕ)) (m : Mark) → Tells fs m → points_of m ≤ 1000
+fair_points fs (Word r word points) t = t.2.few
+fair_points fs (Byte address byte points) t = t.3.few
+fair_points fs (Stored sector offset byte points) t = t.4.few
+fair_points fs (Ends e points) t = t.1.few
+
+-- no line is worth more than 1,000
+pub few_points : (line : List ℕ) (m : Mark) → line_mark line ≡ Ok m → points_of m ≤ 1000
+few_points line m is = fair_points (pieces 9 line) m (line_tells line m is)
 
 -- what tells a mark is read as it
 

@@ -5,24 +5,23 @@ ghost use Rattle.text.specs.Readers.{fields_left};
 ghost use Rattle.sheet.specs.Lines.{points_in, ending_in, letter_of, with_rest, next, last_points};
 
 use processor::ending::Ending;
-use text::fault::{Cause, FieldFault, in_field};
+use text::fault::{Cause, FieldFault};
 use text::fields::FieldReader;
 use text::number::read_number;
 
 // The letter that a field is.
-fn letter(field: &[u8]) -> Result<char, Cause>
+pub(crate) fn letter(field: &[u8]) -> Result<char, Cause>
     ensures { result ≡ letter_of field.now }
 {
-    if field.len() != 1 {
-        return Err(Cause::Spelling);
+    match field {
+        [letter] => Ok(char::from(*letter)),
+        _ => Err(Cause::Spelling),
     }
-    Ok(field[0] as char)
 }
 
 // Points are 1 to 1,000.
 fn points(field: &[u8]) -> Result<u32, Cause>
-    ensures reads { result ≡ points_in field.now }
-    ensures bound { IfOk result (λ n. n ≤ 1000) }
+    ensures { result ≡ points_in field.now }
 {
     let n = read_number(field, 1000)?;
     if n == 0 {
@@ -31,24 +30,14 @@ fn points(field: &[u8]) -> Result<u32, Cause>
     Ok(n)
 }
 
-fn ending(field: &[u8]) -> Result<Ending, Cause>
+// The ending that a field names.
+pub(crate) fn ending(field: &[u8]) -> Result<Ending, Cause>
     ensures { result ≡ ending_in field.now }
 {
-    match Ending::named(field) {
-        Some(ending) => Ok(ending),
-        None => Err(Cause::Spelling),
-    }
+    Ending::named(field).ok_or(Cause::Spelling)
 }
 
-// The letter in the next field, which is the one with this number.
-pub(crate) fn read_letter(fields: &mut FieldReader, number: usize) -> Result<char, FieldFault>
-    ensures { with_rest result (fields_left fields.new) ≡ next letter_of number (fields_left fields.old) }
-{
-    let field = fields.field(number)?;
-    in_field(letter(field), number)
-}
-
-// The number up to a limit in the next field.
+// The number up to a limit in the next field, which is the one with this number.
 pub(crate) fn read_up_to(
     fields: &mut FieldReader,
     number: usize,
@@ -57,26 +46,15 @@ pub(crate) fn read_up_to(
     ensures reads { with_rest result (fields_left fields.new) ≡ next (number_up_to limit) number (fields_left fields.old) }
     ensures bound { IfOk result (λ n. n ≤ limit) }
 {
-    let field = fields.field(number)?;
-    in_field(read_number(field, limit), number)
-}
-
-// The name of an ending in the next field.
-pub(crate) fn read_ending(fields: &mut FieldReader, number: usize) -> Result<Ending, FieldFault>
-    ensures { with_rest result (fields_left fields.new) ≡ next ending_in number (fields_left fields.old) }
-{
-    let field = fields.field(number)?;
-    in_field(ending(field), number)
+    fields.read(number, |field: &[u8]| read_number(field, limit))
 }
 
 // The points in the next field, which has to be the last.
 pub(crate) fn read_points(fields: &mut FieldReader, number: usize) -> Result<u32, FieldFault>
     requires { number ≤ 9 }
-    ensures reads { result ≡ last_points number (fields_left fields.old) }
-    ensures bound { IfOk result (λ n. n ≤ 1000) }
+    ensures { result ≡ last_points number (fields_left fields.old) }
 {
-    let field = fields.field(number)?;
-    let points = in_field(points(field), number)?;
+    let points = fields.read(number, points)?;
     fields.end(number + 1)?;
     Ok(points)
 }

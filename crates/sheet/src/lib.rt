@@ -5,5 +5,5 @@ mod fields;
 mod line;
 pub mod mark;
 pub mod refusal;
+pub mod remains;
 pub mod sheet;
-pub mod worth;

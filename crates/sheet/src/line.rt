@@ -1,18 +1,16 @@
 // A line of a sheet: its letter, and what follows it.
-ghost use Rattle.std.specs.Prelude.{◌≡◌, ◌≤◌, IfOk};
+ghost use Rattle.std.specs.Prelude.{◌≡◌};
 ghost use Rattle.text.specs.Readers.{fields_left};
 ghost use Rattle.sheet.specs.Lines.{word_mark, byte_mark, stored_mark, ends_mark, by_letter, line_mark};
-ghost use Rattle.sheet.specs.Marks.{points_of};
 
-use crate::fields::{read_ending, read_letter, read_points, read_up_to};
+use crate::fields::{ending, letter, read_points, read_up_to};
 use crate::mark::Mark;
 use text::fault::{Cause, FieldFault};
 use text::fields::FieldReader;
 use u5::operand::Register;
 
 fn word_mark(fields: &mut FieldReader) -> Result<Mark, FieldFault>
-    ensures reads { result ≡ word_mark (fields_left fields.old) }
-    ensures bound { IfOk result (λ m. points_of m ≤ 1000) }
+    ensures { result ≡ word_mark (fields_left fields.old) }
 {
     let number = read_up_to(fields, 2, 63)?;
     let word = read_up_to(fields, 3, u32::MAX)?;
@@ -28,8 +26,7 @@ fn word_mark(fields: &mut FieldReader) -> Result<Mark, FieldFault>
 }
 
 fn byte_mark(fields: &mut FieldReader) -> Result<Mark, FieldFault>
-    ensures reads { result ≡ byte_mark (fields_left fields.old) }
-    ensures bound { IfOk result (λ m. points_of m ≤ 1000) }
+    ensures { result ≡ byte_mark (fields_left fields.old) }
 {
     let address = read_up_to(fields, 2, 1_048_575)?;
     let byte = read_up_to(fields, 3, 255)?;
@@ -42,8 +39,7 @@ fn byte_mark(fields: &mut FieldReader) -> Result<Mark, FieldFault>
 }
 
 fn stored_mark(fields: &mut FieldReader) -> Result<Mark, FieldFault>
-    ensures reads { result ≡ stored_mark (fields_left fields.old) }
-    ensures bound { IfOk result (λ m. points_of m ≤ 1000) }
+    ensures { result ≡ stored_mark (fields_left fields.old) }
 {
     let sector = read_up_to(fields, 2, 65_535)?;
     let offset = read_up_to(fields, 3, 511)?;
@@ -58,18 +54,16 @@ fn stored_mark(fields: &mut FieldReader) -> Result<Mark, FieldFault>
 }
 
 fn ends_mark(fields: &mut FieldReader) -> Result<Mark, FieldFault>
-    ensures reads { result ≡ ends_mark (fields_left fields.old) }
-    ensures bound { IfOk result (λ m. points_of m ≤ 1000) }
+    ensures { result ≡ ends_mark (fields_left fields.old) }
 {
-    let ending = read_ending(fields, 2)?;
+    let ending = fields.read(2, ending)?;
     let points = read_points(fields, 3)?;
     Ok(Mark::Ends { ending, points })
 }
 
 // What follows the letter.
 fn by_letter(letter: char, fields: &mut FieldReader) -> Result<Mark, FieldFault>
-    ensures reads { result ≡ by_letter letter (fields_left fields.old) }
-    ensures bound { IfOk result (λ m. points_of m ≤ 1000) }
+    ensures { result ≡ by_letter letter (fields_left fields.old) }
 {
     match letter {
         'R' => word_mark(fields),
@@ -85,10 +79,9 @@ fn by_letter(letter: char, fields: &mut FieldReader) -> Result<Mark, FieldFault>
 
 // The mark that a line tells, or its first wrong field.
 pub(crate) fn read_line(line: &[u8]) -> Result<Mark, FieldFault>
-    ensures reads { result ≡ line_mark line.now }
-    ensures bound { IfOk result (λ m. points_of m ≤ 1000) }
+    ensures { result ≡ line_mark line.now }
 {
     let mut fields = FieldReader::new(line);
-    let letter = read_letter(&mut fields, 1)?;
+    let letter = fields.read(1, letter)?;
     by_letter(letter, &mut fields)
 }

@@ -35,10 +35,10 @@ impl Mark {
         ensures { result ≡ points_of self }
     {
         match self {
-            Mark::Word { points, .. } => points,
-            Mark::Byte { points, .. } => points,
-            Mark::Stored { points, .. } => points,
-            Mark::Ends { points, .. } => points,
+            Mark::Word { points, .. }
+            | Mark::Byte { points, .. }
+            | Mark::Stored { points, .. }
+            | Mark::Ends { points, .. } => points,
         }
     }
 }

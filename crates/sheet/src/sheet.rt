@@ -10,63 +10,42 @@ ghost use Rattle.sheet.specs.Sheets.{Score, Gives};
 use crate::line::read_line;
 use crate::mark::Mark;
 use crate::refusal::SheetRefusal;
-use crate::worth::worth;
+use crate::remains::Remains;
 use disk::Readable;
-use processor::ending::Ending;
-use processor::registers::Registers;
 use text::fault::{Fault, on_line};
 use text::lines::LineReader;
 
-// What the lines of a sheet earn together.
-fn earn<D: Readable>(
-    registers: &Registers,
-    memory: &[u8],
-    disk: &D,
-    ending: Ending,
-    sheet: &[u8],
-) -> Result<u32, Fault>
-    requires { length sheet.now ≤ 65536 }
-    ensures { Score (processor registers.now memory.now) (D.Readable.sectors disk.now) ending (marks_from 1 (pieces 10 sheet.now)) result }
-{
-    let mut lines = LineReader::new(sheet);
-    let mut count = 0;
-    let mut total = 0;
-    while let Some(line) = on_line(lines.line(), count + 1)? {
-        let mark = on_line(read_line(line), count + 1)?;
-        total += worth(registers, memory, disk, ending, mark);
-        count += 1;
+impl<D: Readable> Remains<'_, D> {
+    // What the lines of a sheet earn together.
+    fn earn(&self, sheet: &[u8]) -> Result<u32, Fault>
+        requires { length sheet.now ≤ 65536 }
+        ensures { Score (processor self.now.registers.now self.now.memory.now) (D.Readable.sectors self.now.disk.now) self.now.ending (marks_from 1 (pieces 10 sheet.now)) result }
+    {
+        let mut lines = LineReader::new(sheet);
+        let mut count = 0;
+        let mut total = 0;
+        while let Some(line) = on_line(lines.line(), count + 1)? {
+            let mark = on_line(read_line(line), count + 1)?;
+            total += self.worth(mark);
+            count += 1;
+        }
+        Ok(total)
     }
-    Ok(total)
-}
 
-// The points that a sheet gives: a whole sheet is in form before any point counts.
-pub fn give<D: Readable>(
-    registers: &Registers,
-    memory: &[u8],
-    disk: &D,
-    ending: Ending,
-    sheet: &[u8],
-) -> Result<u32, SheetRefusal>
-    ensures gives { Gives (processor registers.now memory.now) (D.Readable.sectors disk.now) ending sheet.now result }
-    ensures accepts { (ms : List Mark) (points : ℕ) → length sheet.now ≤ 65536 → Tell (pieces 10 sheet.now) ms → Earn (processor registers.now memory.now) (D.Readable.sectors disk.now) ending ms points → result ≡ Ok points }
-{
-    read(registers, memory, disk, ending, sheet)
-}
-
-fn read<D: Readable>(
-    registers: &Registers,
-    memory: &[u8],
-    disk: &D,
-    ending: Ending,
-    sheet: &[u8],
-) -> Result<u32, SheetRefusal>
-    ensures { Gives (processor registers.now memory.now) (D.Readable.sectors disk.now) ending sheet.now result }
-{
-    if sheet.len() > 65_536 {
-        return Err(SheetRefusal::TooLong);
+    // The points that a sheet gives: a whole sheet is in form before any point counts.
+    pub fn give(&self, sheet: &[u8]) -> Result<u32, SheetRefusal>
+        ensures gives { Gives (processor self.now.registers.now self.now.memory.now) (D.Readable.sectors self.now.disk.now) self.now.ending sheet.now result }
+        ensures accepts { (ms : List Mark) (points : ℕ) → length sheet.now ≤ 65536 → Tell (pieces 10 sheet.now) ms → Earn (processor self.now.registers.now self.now.memory.now) (D.Readable.sectors self.now.disk.now) self.now.ending ms points → result ≡ Ok points }
+    {
+        self.read(sheet)
     }
-    match earn(registers, memory, disk, ending, sheet) {
-        Ok(points) => Ok(points),
-        Err(fault) => Err(SheetRefusal::Form(fault)),
+
+    fn read(&self, sheet: &[u8]) -> Result<u32, SheetRefusal>
+        ensures { Gives (processor self.now.registers.now self.now.memory.now) (D.Readable.sectors self.now.disk.now) self.now.ending sheet.now result }
+    {
+        if sheet.len() > 65_536 {
+            return Err(SheetRefusal::TooLong);
+        }
+        Ok(self.earn(sheet)?)
     }
 }

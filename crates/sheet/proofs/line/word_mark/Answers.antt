@@ -4,7 +4,4 @@ use Rattle.sheet.proofs.Telling.{word_told}
 use Rattle.sheet.proofs.line.word_mark.Goals as goal
 
 pub returns : goal.returns
-returns c = record {
-  reads = word_told (fields_left c.args.fields.now) _ _ _ _ _ _ refl c.in_ok-number.ensures.reads c.in_ok-word.ensures.reads c.in_ok-points.ensures.reads;
-  bound = c.in_ok-points.ensures.bound;
-}
+returns c = word_told (fields_left c.args.fields.now) _ _ _ _ _ _ refl c.in_ok-number.ensures.reads c.in_ok-word.ensures.reads c.in_ok-points.ensures

@@ -3,11 +3,11 @@ use Rattle.text.specs.Pieces.{pieces}
 use Rattle.text.specs.Readers.{lines_left}
 use Rattle.processor.specs.Requests.{processor}
 use Rattle.sheet.proofs.Scoring.{Carries}
-use Rattle.sheet.proofs.sheet.earn.Given as goal
+use Rattle.sheet.proofs.remains.Remains.earn.Given as goal
 
 abbrev pub invariant-loop-line : goal.invariant-loop-line
 invariant-loop-line g l =
-    Carries (processor l.registers l.memory) (g.D.Readable.sectors l.disk) l.ending l.total l.count (lines_left l.lines) (pieces 10 l.sheet)
+    Carries (processor l.self.registers.now l.self.memory.now) (g.D.Readable.sectors l.self.disk.now) l.self.ending l.total l.count (lines_left l.lines) (pieces 10 l.sheet)
     × (l.count + length (lines_left l.lines) ≤ 65537)
     × (l.total ≤ 1000 * l.count)
 

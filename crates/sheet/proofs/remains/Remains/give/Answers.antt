@@ -1,5 +1,5 @@
 use Rattle.sheet.proofs.Sameness.{gives_same}
-use Rattle.sheet.proofs.sheet.give.Goals as goal
+use Rattle.sheet.proofs.remains.Remains.give.Goals as goal
 
 pub returns : goal.returns
 returns g c = record {
