@@ -1,8 +1,10 @@
 -- An encoded instruction decodes to itself, and a decoded word is its instruction's but for the unused bits.
-use Rattle.std.proofs.Common.{◌≡◌, ℕ, ◌+◌, ◌*◌, ◌/◌, ◌%◌, ◌^◌, ◌<◌, eqb, ltb, List, [], ◌∷◌, Some, None, sym, refl, ap, ◌∙◌, ⊎_elim, arith}
+use Rattle.std.proofs.Common.{◌≡◌, ℕ, ◌+◌, ◌*◌, ◌/◌, ◌%◌, ◌^◌, ◌<◌, eqb, ltb, Some, None, sym, refl, ap, ◌∙◌, arith}
 use mathlib.Core.HLevel.{is_prop→PathP}
 use native.Mathlib.Bridge.{le_prop}
-use Rattle.std.proofs.lemmas.Bool.{cond-true, cond-false, cases_Bool, eqb-true, ltb-true}
+use Rattle.std.proofs.lemmas.Bool.{eqb-true, ltb-true}
+use Rattle.std.proofs.lemmas.Option.{none-some}
+use Rattle.std.specs.Option.{option_map}
 use Rattle.u5.specs.declared.operand.Register.{Register}
 use Rattle.u5.specs.declared.operand.Immediate.{Immediate}
 use Rattle.u5.specs.declared.operand.Shift.{Shift}
@@ -10,9 +12,9 @@ use Rattle.u5.specs.declared.operation.Operation.{Operation}
 use Rattle.u5.specs.declared.operation.Operation.TheVariants as o
 use Rattle.u5.specs.declared.instruction.Instruction.{Instruction}
 use Rattle.u5.specs.declared.instruction.Instruction.TheVariants.{LoadB, LoadH, LoadW, StoreB, StoreH, StoreW, Add, Mul, Div, Nor, MovI, CMov, In, Out, Read, Write, Halt}
-use Rattle.u5.specs.Operations.{opcode, coded_in, coded, every, unused}
-use Rattle.u5.specs.Words.{operation, encoded, three, two, one, moved, register, immediate, shift, field_a, field_b, field_c, instruction, decoded_as, decoded, Unknown}
-use Rattle.u5.proofs.Tables.{each_operation}
+use Rattle.u5.specs.Operations.{opcode, coded, every, unused}
+use Rattle.u5.specs.Words.{operation, encoded, three, two, one, moved, register, immediate, shift, field_a, field_b, field_c, instruction, decoded, Unknown}
+use Rattle.u5.proofs.Tables.{found_passes, each_operation}
 
 -- operands are known by their numbers
 
@@ -46,28 +48,18 @@ coded_opcode o.Read = refl
 coded_opcode o.Write = refl
 coded_opcode o.Halt = refl
 
-nothing_some : {X : Type 0} (x : X) → None ≡ Some x → ⊥
-nothing_some x e = let z : ◌≡◌ {A = ℕ} 0 1 = cc in omega arith
-
-coded_in_is : (n : ℕ) (ops : List Operation) (op : Operation) → coded_in n ops ≡ Some op → opcode op ≡ n
-coded_in_is n [] op e = absurd (nothing_some op e)
-coded_in_is n (x ∷ xs) op e =
-    ⊎_elim
-    (λ t. let same : Some x ≡ Some op = sym (cond-true (eqb n (opcode x)) _ _ t) ∙ e in let is : x ≡ op = cc in ap opcode (sym is) ∙ sym (eqb-true n (opcode x) t))
-    (λ f. coded_in_is n xs op (sym (cond-false (eqb n (opcode x)) _ _ f) ∙ e))
-    (cases_Bool (eqb n (opcode x)))
-
 pub coded_is : (n : ℕ) (op : Operation) → coded n ≡ Some op → opcode op ≡ n
-coded_is n op e = coded_in_is n (o.LoadB ∷ o.LoadH ∷ o.LoadW ∷ o.StoreB ∷ o.StoreH ∷ o.StoreW ∷ o.Add ∷ o.Mul ∷ o.Div ∷ o.Nor ∷ o.MovI ∷ o.CMov ∷ o.In ∷ o.Out ∷ o.Read ∷ o.Write ∷ o.Halt ∷ []) op e
+unfolding every
+coded_is n op e = sym (eqb-true n (opcode op) (found_passes (λ o. eqb n (opcode o)) every op e))
 
 pub none_coded : (n : ℕ) → coded n ≡ None → Unknown n
-none_coded n e op is = nothing_some op (sym e ∙ ap coded (sym is) ∙ coded_opcode op)
+none_coded n e op is = none-some op (sym e ∙ ap coded (sym is) ∙ coded_opcode op)
 
 -- decoding, from the opcode on
 
 pub from_opcode : (op : Operation) (w : ℕ) → w / 2 ^ 27 ≡ opcode op → decoded w ≡ Some (instruction op w)
 unfolding decoded
-from_opcode op w e = ap (λ x. decoded_as x w) (ap coded e ∙ coded_opcode op)
+from_opcode op w e = ap (option_map (λ o. instruction o w)) (ap coded e ∙ coded_opcode op)
 
 -- an operation with its operands in a word, whatever stands below them
 module _ (op : Operation) (w extra : ℕ) where
