@@ -2,7 +2,7 @@
 ghost use Rattle.std.specs.Prelude.{◌≡◌, ◌<◌, All, MatchOption, ◌≢◌};
 ghost use Rattle.u5.specs.Operations.{spelling, opcode, slots, unused, named, coded};
 
-#[derive(Clone, Copy)]
+#[derive(Clone, Copy, PartialEq, Eq, Debug)]
 pub enum Operation {
     LoadB = 0,
     LoadH = 1,
@@ -24,14 +24,14 @@ pub enum Operation {
 }
 
 // What an operand is: a register, or a number up to a limit.
-#[derive(Clone, Copy)]
+#[derive(Clone, Copy, PartialEq, Eq, Debug)]
 pub enum Kind {
     Register,
     Number(u32),
 }
 
 // The place of an operand in a word: the weight of its lowest bit.
-#[derive(Clone, Copy)]
+#[derive(Clone, Copy, PartialEq, Eq, Debug)]
 pub struct Slot {
     pub kind: Kind,
     pub weight: u32,
