@@ -1,5 +1,5 @@
 -- An encoded instruction decodes to itself, and a decoded word is its instruction's but for the unused bits.
-use Rattle.std.proofs.Common.{◌≡◌, ℕ, ◌+◌, ◌*◌, ◌/◌, ◌%◌, ◌^◌, ◌<◌, eqb, ltb, Some, None, sym, refl, ap, ◌∙◌, arith}
+use Rattle.std.proofs.Common.{◌≡◌, ℕ, ◌+◌, ◌*◌, ◌/◌, ◌%◌, ◌^◌, ◌<◌, eqb, ltb, Some, None, Option, MatchOption, sym, refl, ap, ◌∙◌, subst, arith}
 use mathlib.Core.HLevel.{is_prop→PathP}
 use native.Mathlib.Bridge.{le_prop}
 use Rattle.std.proofs.lemmas.Bool.{eqb-true, ltb-true}
@@ -112,26 +112,6 @@ some_unused op = ltb-true 0 (unused op) (each_operation (λ x. ltb 0 (unused x))
 pub decodes : (i : Instruction) → decoded (encoded i) ≡ Some i
 decodes i = reads_as i (encoded i) 0 (some_unused (operation i)) (omega arith)
 
--- encoding leaves the unused bits 0
-pub clears : (i : Instruction) → encoded i % unused (operation i) ≡ 0
-clears (LoadB a b c) = omega arith
-clears (LoadH a b c) = omega arith
-clears (LoadW a b c) = omega arith
-clears (StoreB a b c) = omega arith
-clears (StoreH a b c) = omega arith
-clears (StoreW a b c) = omega arith
-clears (Add a b c) = omega arith
-clears (Mul a b c) = omega arith
-clears (Div a b c) = omega arith
-clears (Nor a b c) = omega arith
-clears (MovI r i s) = omega arith
-clears (CMov a b c) = omega arith
-clears (In a) = omega arith
-clears (Out a) = omega arith
-clears (Read a b) = omega arith
-clears (Write a b) = omega arith
-clears Halt = omega arith
-
 -- a word, cut at its fields
 
 cut_a : (w : ℕ) → w ≡ (w / 2 ^ 27) * 2 ^ 27 + (w / 2 ^ 21 % 64) * 2 ^ 21 + w % 2 ^ 21
@@ -197,3 +177,12 @@ restores o.Out w e = one_restores o.Out w e
 restores o.Read w e = two_restores o.Read w e
 restores o.Write w e = two_restores o.Write w e
 restores o.Halt w e = omega arith
+
+cases_of : (w : ℕ) (o : Option Operation) → coded (w / 2 ^ 27) ≡ o → MatchOption (option_map (λ op. instruction op w) o) (Unknown (w / 2 ^ 27)) (λ i. w ≡ encoded i + w % unused (operation i))
+cases_of w (Some op) e = restores op w (coded_is _ op e)
+cases_of w None e = none_coded _ e
+
+-- a word is the encoding of the instruction that it decodes to but for the unused bits, or its opcode is no operation's
+pub decoded_cases : (w : ℕ) (r : Option Instruction) → r ≡ decoded w → MatchOption r (Unknown (w / 2 ^ 27)) (λ i. w ≡ encoded i + w % unused (operation i))
+unfolding decoded
+decoded_cases w r e = subst (λ o. MatchOption o (Unknown (w / 2 ^ 27)) (λ i. w ≡ encoded i + w % unused (operation i))) (sym e) (cases_of w (coded (w / 2 ^ 27)) refl)
