@@ -104,12 +104,6 @@ impl Instruction {
         ensures decodes { decoded result ≡ Some self }
         ensures clear { result % unused (operation self) ≡ 0 }
     {
-        self.word()
-    }
-
-    fn word(self) -> u32
-        ensures { result ≡ encoded self }
-    {
         self.operation().opcode() * 0x800_0000 + self.operands()
     }
 
