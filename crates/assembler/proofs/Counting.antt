@@ -1,5 +1,5 @@
 -- The words of a text, counted and written line by line.
-use Rattle.std.proofs.Common.{◌≡◌, ℕ, suc, ◌+◌, ◌*◌, ◌/◌, ◌%◌, ◌^◌, ◌<◌, ◌≤◌, true, false, eqb, List, [], ◌∷◌, ◌++◌, length, is_ok, Ok, Err, Result, sym, refl, ap, ◌∙◌, subst, append_assoc, append-nil, arith, length-append}
+use Rattle.std.proofs.Common.{◌≡◌, ℕ, suc, ◌+◌, ◌*◌, ◌/◌, ◌%◌, ◌^◌, ◌<◌, true, false, eqb, List, [], ◌∷◌, ◌++◌, length, is_ok, Ok, Err, Result, sym, refl, ap, ◌∙◌, subst, append_assoc, append-nil, arith, length-append}
 use Rattle.std.specs.Result.{IsOk}
 use Rattle.std.proofs.lemmas.Bool.{cond-false, ne_eqb}
 use Rattle.text.specs.declared.fault.Cause.TheVariants.{End}
@@ -10,7 +10,7 @@ use Rattle.text.proofs.Placing.{on_line_ok}
 use Rattle.assembler.specs.declared.writer.Writer.{Writer}
 use Rattle.assembler.specs.Lines.{line_word}
 use Rattle.assembler.specs.Texts.{onward, with_line, words_from, counted, words_of, bytes}
-use Rattle.assembler.specs.Writes.{Writes}
+use Rattle.assembler.specs.Writes.{Writes, HasRoom}
 use Rattle.assembler.proofs.Writing.{writes_then}
 
 -- so many words were counted before
@@ -75,7 +75,7 @@ module _ {first after : Writer} {whole : List ℕ} {before : List (List ℕ)} (s
       let o = onward_ok w (words_from (suc so_far.line) rest) (ap is_ok (sym is) ∙ so_far.sound) in
       (o.0, append_assoc so_far.done (four w) (bytes (words_of (words_from (suc so_far.line) rest))) ∙ ap (λ ws. so_far.done ++ bytes ws) (sym (ap words_of is ∙ o.1)) ∙ so_far.split)
 
-  pub word_room : (w : ℕ) → Ok w ≡ line_word p → first.end + length whole ≤ length first.out.now → after.end + 4 ≤ length after.out.now
+  pub word_room : (w : ℕ) → Ok w ≡ line_word p → HasRoom first (length whole) → HasRoom after 4
   word_room w e h =
       let n = next w e in
       omega (arith, so_far.there.written.till, so_far.there.written.size, ap length n.1, length-append (so_far.done ++ four w) (bytes (words_of (words_from (suc so_far.line) rest))), length-append so_far.done (four w))

@@ -17,14 +17,14 @@ use Rattle.assembler.specs.declared.keyword.Keyword.TheVariants.{Of}
 use Rattle.assembler.specs.Keywords.{spelling, slots}
 use Rattle.assembler.specs.Listing.{operand_text, tail}
 use Rattle.assembler.specs.declared.writer.Writer.{Writer}
-use Rattle.assembler.specs.Writes.{Writes}
+use Rattle.assembler.specs.Writes.{Writes, HasRoom}
 use Rattle.assembler.proofs.Writing.{writes_then, room_left}
 use Rattle.assembler.proofs.Keywording.{Passes, each_keyword}
 use Rattle.assembler.proofs.Slotting.{all_small, small}
 
 -- one operand more, after a tab
 module _ {first before : Writer} {p : List ℕ} (due : List Slot) (k word : ℕ) (s : Slot) (rest : List Slot) (here : drop k due ≡ s ∷ rest) (so_far : Writes first p before) (split : p ++ tail (drop k due) word ≡ tail due word) where
-  pub operand_room : first.end + length (tail due word) ≤ length first.out.now → before.end + (1 + length (operand_text s.kind (part s word))) ≤ length before.out.now
+  pub operand_room : HasRoom first (length (tail due word)) → HasRoom before (1 + length (operand_text s.kind (part s word)))
   operand_room h = omega (arith, room_left (tail (drop k due) word) (tail due word) so_far split h, ap (λ ss. length (tail ss word)) here, length-append (operand_text s.kind (part s word)) (tail rest word))
 
   pub operand_more : {after : Writer} → Writes before (9 ∷ operand_text s.kind (part s word)) after → (q : List ℕ) × Writes first q after × (q ++ tail rest word ≡ tail due word)

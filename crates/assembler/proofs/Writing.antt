@@ -4,7 +4,7 @@ use Rattle.std.proofs.lemmas.List.{drop-drop}
 use Rattle.std.proofs.lemmas.Fmt.{decimal_digit, decimal_step}
 use Rattle.text.specs.Numerals.{spelled}
 use Rattle.assembler.specs.declared.writer.Writer.{Writer}
-use Rattle.assembler.specs.Writes.{Appended, Writes}
+use Rattle.assembler.specs.Writes.{Appended, Writes, HasRoom}
 use Rattle.text.proofs.Spelling.{spelled_is}
 
 pub then : {out mid last : List ℕ} {at e₁ e₂ : ℕ} {p q : List ℕ} → Appended out at p mid e₁ → Appended mid e₁ q last e₂ → Appended out at (p ++ q) last e₂
@@ -43,5 +43,5 @@ pub length_step : (n : ℕ) → 10 ≤ n → n < 2 ^ 32 → length (spelled n) �
 length_step n h l = ap length (spelled_step n h l) ∙ length-append (spelled (n / 10)) ((48 + n % 10) ∷ [])
 
 -- what is yet to be written has room
-pub room_left : {w₁ w₂ : Writer} {p : List ℕ} (t whole : List ℕ) → Writes w₁ p w₂ → p ++ t ≡ whole → w₁.end + length whole ≤ length w₁.out.now → w₂.end + length t ≤ length w₂.out.now
+pub room_left : {w₁ w₂ : Writer} {p : List ℕ} (t whole : List ℕ) → Writes w₁ p w₂ → p ++ t ≡ whole → HasRoom w₁ (length whole) → HasRoom w₂ (length t)
 room_left {w₁} {w₂} {p} t whole a e h = omega (arith, a.written.till, a.written.size, length-append p t, ap length e)

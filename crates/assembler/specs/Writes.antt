@@ -1,5 +1,5 @@
 -- Bytes written one after another into a buffer.
-use Rattle.std.specs.Prelude.{◌≡◌, ℕ, ◌+◌, List, ◌++◌, length, take, drop}
+use Rattle.std.specs.Prelude.{◌≡◌, ℕ, ◌+◌, ◌≤◌, List, ◌++◌, length, take, drop}
 use Rattle.assembler.specs.declared.writer.Writer.{Writer}
 
 -- a piece was written into a buffer from a place on, up to an end; what lies before and after is as it was
@@ -9,9 +9,9 @@ pub record Appended (out : List ℕ) (at : ℕ) (piece after : List ℕ) (end : 
   pub front : take end after ≡ take at out ++ piece
   pub rest : drop end after ≡ drop end out
 
--- where a piece would end
-abbrev pub reach : Writer → List ℕ → ℕ
-reach w piece = w.end + length piece
+-- there is room for so many bytes more
+abbrev pub HasRoom : Writer → ℕ → Type 0
+HasRoom w size = w.end + size ≤ length w.out.now
 
 -- a writer wrote a piece, and holds the same lent buffer
 pub record Writes (before : Writer) (piece : List ℕ) (after : Writer) : Type 0 where

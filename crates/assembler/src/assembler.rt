@@ -80,14 +80,6 @@ pub fn assemble(text: &[u8], out: &mut [u8]) -> Result<usize, AssembleRefusal>
     ensures accepts { (ws : List ℕ) → WithinLimits text.now → SpellsText text.now ws → 4 * length ws ≤ length out.old → result ≡ Ok (4 * length ws) }
     ensures one { (line : List ℕ) (v w : ℕ) → Spells line v → Spells line w → v ≡ w }
 {
-    assemble_text(text, out)
-}
-
-fn assemble_text(text: &[u8], out: &mut [u8]) -> Result<usize, AssembleRefusal>
-    ensures assembles { Assembles text.now out.old result out.new }
-    ensures bound { IfOk result (λ n. n ≤ length out.new) }
-    ensures accepts { (ws : List ℕ) → WithinLimits text.now → SpellsText text.now ws → 4 * length ws ≤ length out.old → result ≡ Ok (4 * length ws) }
-{
     if text.len() > 65536 || count_newlines(text) > 3328 {
         return Err(AssembleRefusal::TooLong);
     }

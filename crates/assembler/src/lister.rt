@@ -44,21 +44,13 @@ fn write_lines(words: &[u8], out: &mut [u8]) -> usize
 }
 
 // Lists `words`, four bytes each, into `out`, and says how many bytes were written: a line a word, which assembles to the word.
+#[tactic(auto, using(crate::proofs::Listings::one_line))]
 pub fn list(words: &[u8], out: &mut [u8]) -> Result<usize, ListRefusal>
     ensures lists { Lists words.now out.old result out.new }
     ensures bound { IfOk result (λ n. n ≤ length out.new) }
     ensures reads_back { IfOk result (λ n. SpellsText (take n out.new) (words_at words.now)) }
     ensures assembles { IfOk result (λ n. WithinLimits (take n out.new)) }
     ensures every { (w : ℕ) → w < 2 ^ 32 → OneLine w }
-{
-    list_words(words, out)
-}
-
-fn list_words(words: &[u8], out: &mut [u8]) -> Result<usize, ListRefusal>
-    ensures lists { Lists words.now out.old result out.new }
-    ensures bound { IfOk result (λ n. n ≤ length out.new) }
-    ensures reads_back { IfOk result (λ n. SpellsText (take n out.new) (words_at words.now)) }
-    ensures assembles { IfOk result (λ n. WithinLimits (take n out.new)) }
 {
     if words.len() > 13312 {
         return Err(ListRefusal::TooLong);

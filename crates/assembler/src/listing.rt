@@ -4,7 +4,7 @@ ghost use Rattle.u5.specs.Operations.{largest};
 ghost use Rattle.u5.specs.Slots.{part};
 ghost use Rattle.assembler.specs.Keywords.{slots};
 ghost use Rattle.assembler.specs.Listing.{operand_text, tail, listed_as, listed};
-ghost use Rattle.assembler.specs.Writes.{Writes, reach};
+ghost use Rattle.assembler.specs.Writes.{Writes, HasRoom};
 
 use crate::keyword::Keyword;
 use crate::writer::Writer;
@@ -37,7 +37,7 @@ fn listed_as(word: u32) -> Keyword
 
 fn write_operand(writer: &mut Writer, kind: Kind, n: u32)
     requires fits { n ≤ largest kind }
-    requires room { reach writer.old (operand_text kind n) ≤ length writer.old.out.now }
+    requires room { HasRoom writer.old (length (operand_text kind n)) }
     ensures { Writes writer.old (operand_text kind n) writer.new }
 {
     match kind {
@@ -47,7 +47,7 @@ fn write_operand(writer: &mut Writer, kind: Kind, n: u32)
 }
 
 fn write_operands(writer: &mut Writer, keyword: Keyword, word: u32)
-    requires { reach writer.old (tail (slots keyword) word) ≤ length writer.old.out.now }
+    requires { HasRoom writer.old (length (tail (slots keyword) word)) }
     ensures { Writes writer.old (tail (slots keyword) word) writer.new }
 {
     for slot in keyword.slots() {
@@ -58,7 +58,7 @@ fn write_operands(writer: &mut Writer, keyword: Keyword, word: u32)
 
 // Writes the line of `word`, with its newline.
 pub(crate) fn write_line(writer: &mut Writer, word: u32)
-    requires { writer.old.end + 19 ≤ length writer.old.out.now }
+    requires { HasRoom writer.old 19 }
     ensures { Writes writer.old (listed word ++ (10 ∷ [])) writer.new }
 {
     let keyword = listed_as(word);

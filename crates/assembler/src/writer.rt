@@ -1,7 +1,7 @@
 // Bytes written one after another into a lent buffer.
 ghost use Rattle.std.specs.Prelude.{◌≡◌, ◌≤◌, length};
 ghost use Rattle.text.specs.Numerals.{spelled};
-ghost use Rattle.assembler.specs.Writes.{Writes, reach};
+ghost use Rattle.assembler.specs.Writes.{Writes, HasRoom};
 
 // A buffer, and where the next piece begins.
 #[derive(Drop)]
@@ -28,7 +28,7 @@ impl<'a> Writer<'a> {
     }
 
     pub(crate) fn piece(&mut self, piece: &[u8])
-        requires { reach self.old piece.now ≤ length self.old.out.now }
+        requires { HasRoom self.old (length piece.now) }
         ensures { Writes self.old piece.now self.new }
     {
         let end = self.end + piece.len();
@@ -38,7 +38,7 @@ impl<'a> Writer<'a> {
 
     // The digits of `n`.
     pub(crate) fn number(&mut self, n: u32)
-        requires { reach self.old (spelled n) ≤ length self.old.out.now }
+        requires { HasRoom self.old (length (spelled n)) }
         ensures { Writes self.old (spelled n) self.new }
     {
         let last = [b'0' + (n % 10) as u8];

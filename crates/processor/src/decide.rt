@@ -1,9 +1,9 @@
 // What the next instruction comes to: this only reads.
-ghost use Rattle.std.specs.Prelude.{◌≡◌, ◌+◌, ◌^◌, ◌<◌, length, slice_index};
-ghost use Rattle.processor.specs.Effects.{moved, load as load_effect, store as store_effect, effect};
+ghost use Rattle.std.specs.Prelude.{◌≡◌, ◌+◌, ◌^◌, ◌<◌, length, Ok};
+ghost use Rattle.processor.specs.Effects.{value, moved, load as load_effect, store as store_effect, effect};
 ghost use Rattle.processor.specs.Widths.{size};
-ghost use Rattle.processor.specs.Words.{low, moved_on};
-ghost use Rattle.processor.specs.Requests.{Asks, Decides, processor, misplaced};
+ghost use Rattle.processor.specs.Words.{low};
+ghost use Rattle.processor.specs.Requests.{Asks, Decides, processor, seen, if_placed, transfer};
 
 use crate::bytes::load;
 use crate::ending::Ending;
@@ -15,144 +15,144 @@ use u5::operand::Register;
 
 const COUNTER: Register = Register { number: 63 };
 
-impl Registers {
+// What an instruction reads: the registers and memory, before it has changed them.
+#[derive(Clone, Copy)]
+struct Sight<'a> {
+    registers: &'a Registers,
+    memory: &'a [u8],
+}
+
+impl Sight<'_> {
+    // What a register reads as while an instruction executes.
+    fn value(&self, r: Register) -> u32
+        ensures { result ≡ value (moved (seen self.now)) r }
+    {
+        self.registers.operand(r)
+    }
+
     // What two registers add up to: a result, or an address.
     fn sum(&self, b: Register, c: Register) -> u32
-        ensures { result ≡ low (slice_index (moved_on self.now.words) b.number + slice_index (moved_on self.now.words) c.number) }
+        ensures { result ≡ low (value (moved (seen self.now)) b + value (moved (seen self.now)) c) }
     {
-        self.operand(b).wrapping_add(self.operand(c))
+        self.value(b).wrapping_add(self.value(c))
     }
 
-    fn load(&self, memory: &[u8], width: Width, a: Register, at: u32) -> Request
-        ensures { Asks (λ p _. load_effect (size width) a at p) (moved (processor self.now memory.now)) result }
+    fn load(&self, width: Width, a: Register, at: u32) -> Result<Request, Ending>
+        ensures { Asks (λ p _. load_effect (size width) a at p) (moved (seen self.now)) result }
     {
         let at = at as usize;
-        if at + width.size() > memory.len() {
-            return Request::Ends(Ending::Range);
+        if at + width.size() > self.memory.len() {
+            return Err(Ending::Range);
         }
-        Request::Sets {
+        Ok(Request::Sets {
             register: a,
-            value: load(memory, at, width.size()),
-        }
+            value: load(self.memory, at, width.size()),
+        })
     }
 
-    fn store(&self, memory: &[u8], width: Width, a: Register, at: u32) -> Request
-        ensures { Asks (λ p _. store_effect (size width) a at p) (moved (processor self.now memory.now)) result }
+    fn store(&self, width: Width, a: Register, at: u32) -> Result<Request, Ending>
+        ensures { Asks (λ p _. store_effect (size width) a at p) (moved (seen self.now)) result }
     {
         let at = at as usize;
-        if let Some(ending) = misplaced(memory, at, width.size()) {
-            return Request::Ends(ending);
-        }
-        Request::Stores {
+        placed(self.memory, at, width.size())?;
+        Ok(Request::Stores {
             at,
             width,
-            value: self.operand(a),
-        }
+            value: self.value(a),
+        })
     }
 
-    fn read(&self, memory: &[u8], a: Register, b: Register) -> Request
-        ensures { Asks (effect (Instruction.Read a b)) (moved (processor self.now memory.now)) result }
+    // The address and the sector that two registers name.
+    fn transfer(&self, a: Register, b: Register) -> Result<(usize, u32), Ending>
+        ensures { result ≡ transfer (moved (seen self.now)) a b }
     {
-        let at = self.operand(a) as usize;
-        if let Some(ending) = misplaced(memory, at, 512) {
-            return Request::Ends(ending);
-        }
-        Request::Reads {
-            at,
-            sector: self.operand(b),
-        }
+        let at = self.value(a) as usize;
+        placed(self.memory, at, 512)?;
+        Ok((at, self.value(b)))
     }
 
-    fn write(&self, memory: &[u8], a: Register, b: Register) -> Request
-        ensures { Asks (effect (Instruction.Write a b)) (moved (processor self.now memory.now)) result }
+    fn divide(&self, a: Register, b: Register, c: Register) -> Result<Request, Ending>
+        ensures { Asks (effect (Instruction.Div a b c)) (moved (seen self.now)) result }
     {
-        let at = self.operand(a) as usize;
-        if let Some(ending) = misplaced(memory, at, 512) {
-            return Request::Ends(ending);
-        }
-        Request::Writes {
-            at,
-            sector: self.operand(b),
-        }
-    }
-
-    fn divide(&self, memory: &[u8], a: Register, b: Register, c: Register) -> Request
-        ensures { Asks (effect (Instruction.Div a b c)) (moved (processor self.now memory.now)) result }
-    {
-        let divisor = self.operand(c);
+        let divisor = self.value(c);
         if divisor == 0 {
-            return Request::Ends(Ending::Zero);
+            return Err(Ending::Zero);
         }
-        Request::Sets {
-            register: a,
-            value: self.operand(b) / divisor,
-        }
+        Ok(sets(a, self.value(b) / divisor))
     }
 
-    fn move_if(&self, memory: &[u8], a: Register, b: Register, c: Register) -> Request
-        ensures { Asks (effect (Instruction.CMov a b c)) (moved (processor self.now memory.now)) result }
+    fn move_if(&self, a: Register, b: Register, c: Register) -> Request
+        ensures { Asks (effect (Instruction.CMov a b c)) (moved (seen self.now)) (Ok result) }
     {
-        if self.operand(c) == 0 {
+        if self.value(c) == 0 {
             return Request::Passes;
         }
-        Request::Sets {
-            register: a,
-            value: self.operand(b),
-        }
+        sets(a, self.value(b))
     }
 
     // What an instruction comes to, r63 already moved on.
-    fn execute(&self, memory: &[u8], instruction: Instruction) -> Request
-        ensures { Asks (effect instruction) (moved (processor self.now memory.now)) result }
+    fn execute(&self, instruction: Instruction) -> Result<Request, Ending>
+        ensures { Asks (effect instruction) (moved (seen self.now)) result }
     {
-        match instruction {
-            Instruction::LoadB { a, b, c } => self.load(memory, Width::Byte, a, self.sum(b, c)),
-            Instruction::LoadH { a, b, c } => self.load(memory, Width::Half, a, self.sum(b, c)),
-            Instruction::LoadW { a, b, c } => self.load(memory, Width::Word, a, self.sum(b, c)),
-            Instruction::StoreB { a, b, c } => self.store(memory, Width::Byte, a, self.sum(b, c)),
-            Instruction::StoreH { a, b, c } => self.store(memory, Width::Half, a, self.sum(b, c)),
-            Instruction::StoreW { a, b, c } => self.store(memory, Width::Word, a, self.sum(b, c)),
+        Ok(match instruction {
+            Instruction::LoadB { a, b, c } => self.load(Width::Byte, a, self.sum(b, c))?,
+            Instruction::LoadH { a, b, c } => self.load(Width::Half, a, self.sum(b, c))?,
+            Instruction::LoadW { a, b, c } => self.load(Width::Word, a, self.sum(b, c))?,
+            Instruction::StoreB { a, b, c } => self.store(Width::Byte, a, self.sum(b, c))?,
+            Instruction::StoreH { a, b, c } => self.store(Width::Half, a, self.sum(b, c))?,
+            Instruction::StoreW { a, b, c } => self.store(Width::Word, a, self.sum(b, c))?,
             Instruction::Add { a, b, c } => sets(a, self.sum(b, c)),
-            Instruction::Mul { a, b, c } => sets(a, self.operand(b).wrapping_mul(self.operand(c))),
-            Instruction::Div { a, b, c } => self.divide(memory, a, b, c),
-            Instruction::Nor { a, b, c } => sets(a, !(self.operand(b) | self.operand(c))),
+            Instruction::Mul { a, b, c } => sets(a, self.value(b).wrapping_mul(self.value(c))),
+            Instruction::Div { a, b, c } => self.divide(a, b, c)?,
+            Instruction::Nor { a, b, c } => sets(a, !(self.value(b) | self.value(c))),
             Instruction::MovI { r, i, s } => sets(r, u32::from(i.value) << u32::from(s.places)),
-            Instruction::CMov { a, b, c } => self.move_if(memory, a, b, c),
+            Instruction::CMov { a, b, c } => self.move_if(a, b, c),
             Instruction::In { a } => Request::Takes(a),
-            Instruction::Out { a } => Request::Prints((self.operand(a) % 256) as u8),
-            Instruction::Read { a, b } => self.read(memory, a, b),
-            Instruction::Write { a, b } => self.write(memory, a, b),
+            Instruction::Out { a } => Request::Prints((self.value(a) % 256) as u8),
+            Instruction::Read { a, b } => {
+                let (at, sector) = self.transfer(a, b)?;
+                Request::Reads { at, sector }
+            }
+            Instruction::Write { a, b } => {
+                let (at, sector) = self.transfer(a, b)?;
+                Request::Writes { at, sector }
+            }
             Instruction::Halt => Request::Halts,
-        }
+        })
     }
+}
 
+impl Registers {
     // Fetches the next instruction and decides what it comes to: the first ending that applies, or what is to be done.
-    pub(crate) fn decide(&self, memory: &[u8]) -> Request
+    pub(crate) fn decide(&self, memory: &[u8]) -> Result<Request, Ending>
         ensures { Decides (processor self.now memory.now) result }
     {
         let at = self.get(COUNTER);
         if at % 4 != 0 || at as usize + 4 > memory.len() {
-            return Request::Ends(Ending::Fetch);
+            return Err(Ending::Fetch);
         }
-        match Instruction::decode(load(memory, at as usize, 4)) {
-            None => Request::Ends(Ending::Code),
-            Some(instruction) => self.execute(memory, instruction),
-        }
+        let word = load(memory, at as usize, 4);
+        let instruction = Instruction::decode(word).ok_or(Ending::Code)?;
+        let sight = Sight {
+            registers: self,
+            memory,
+        };
+        sight.execute(instruction)
     }
 }
 
-// Why an access that has to be aligned cannot be made.
-fn misplaced(memory: &[u8], at: usize, width: usize) -> Option<Ending>
+// Whether an access that has to be aligned can be made, or why not.
+fn placed(memory: &[u8], at: usize, width: usize) -> Result<(), Ending>
     requires { (0 < width) × (at + width < 2 ^ 64) }
-    ensures { result ≡ misplaced at width (length memory.now) }
+    ensures { result ≡ if_placed at width (length memory.now) tt }
 {
     if at % width != 0 {
-        return Some(Ending::Align);
+        return Err(Ending::Align);
     }
     if at + width > memory.len() {
-        return Some(Ending::Range);
+        return Err(Ending::Range);
     }
-    None
+    Ok(())
 }
 
 fn sets(register: Register, value: u32) -> Request

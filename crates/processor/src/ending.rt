@@ -3,7 +3,7 @@ ghost use Rattle.std.specs.Prelude.{◌≡◌, MatchBool, MatchOption, ◌≢◌
 ghost use Rattle.processor.specs.Names.{ending_name, ending_named, want_name};
 
 // What ends a processor, until the next accepted start.
-#[derive(Clone, Copy)]
+#[derive(Clone, Copy, PartialEq, Eq, Debug)]
 pub enum Ending {
     Fetch,
     Code,
@@ -15,7 +15,7 @@ pub enum Ending {
 }
 
 // What an instruction lacks: it is tried again by the next run.
-#[derive(Clone, Copy)]
+#[derive(Clone, Copy, PartialEq, Eq, Debug)]
 pub enum Want {
     Input,
     Paper,
@@ -53,7 +53,7 @@ impl Ending {
     pub fn same(self, other: Ending) -> bool
         ensures { MatchBool result (self ≡ other) (self ≢ other) }
     {
-        self.name().as_bytes() == other.name().as_bytes()
+        self == other
     }
 
     // The ending with this name.
@@ -61,12 +61,10 @@ impl Ending {
         ensures reads { result ≡ ending_named field.now }
         ensures cases { MatchOption result ((e : Ending) → field.now ≢ ending_name e) (λ e. field.now ≡ ending_name e) }
     {
-        for ending in ENDINGS {
-            if field == ending.name().as_bytes() {
-                return Some(ending);
-            }
-        }
-        None
+        ENDINGS
+            .iter()
+            .copied()
+            .find(|e| field == e.name().as_bytes())
     }
 }
 

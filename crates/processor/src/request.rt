@@ -1,12 +1,10 @@
 // What an instruction comes to, once it was decided.
-use crate::ending::Ending;
 use crate::width::Width;
 use u5::operand::Register;
 
 // What is left to do of an instruction, once all that it reads was read.
 #[derive(Clone, Copy)]
 pub enum Request {
-    Ends(Ending),
     Passes,
     Sets { register: Register, value: u32 },
     Stores { at: usize, width: Width, value: u32 },

@@ -4,6 +4,7 @@ ghost use Rattle.processor.specs.Laws.{StaysSound, UnusedBitsIgnored};
 ghost use Rattle.processor.specs.Requests.{Comes, processor};
 
 use crate::bytes::store;
+use crate::ending::Ending;
 use crate::outcome::Outcome;
 use crate::registers::Registers;
 use crate::request::Request;
@@ -11,19 +12,18 @@ use crate::width::Width;
 
 impl Registers {
     // Decides the next instruction, and does it as far as no device is asked.
-    fn attempt(&mut self, memory: &mut [u8]) -> Outcome
+    fn attempt(&mut self, memory: &mut [u8]) -> Result<Outcome, Ending>
         ensures { Comes (processor self.old memory.old) result (processor self.new memory.new) }
     {
-        match self.decide(memory) {
-            Request::Ends(ending) => Outcome::Ends(ending),
+        match self.decide(memory)? {
             Request::Passes => {
                 self.advance();
-                Outcome::Done
+                Ok(Outcome::Done)
             }
             Request::Sets { register, value } => {
                 self.advance();
                 self.set(register, value);
-                Outcome::Done
+                Ok(Outcome::Done)
             }
             Request::Stores { at, width, value } => {
                 match width {
@@ -32,22 +32,22 @@ impl Registers {
                     Width::Word => store(memory, at, 4, value),
                 }
                 self.advance();
-                Outcome::Done
+                Ok(Outcome::Done)
             }
-            Request::Takes(register) => Outcome::Takes(register),
-            Request::Prints(byte) => Outcome::Prints(byte),
-            Request::Reads { at, sector } => Outcome::Reads { at, sector },
-            Request::Writes { at, sector } => Outcome::Writes { at, sector },
+            Request::Takes(register) => Ok(Outcome::Takes(register)),
+            Request::Prints(byte) => Ok(Outcome::Prints(byte)),
+            Request::Reads { at, sector } => Ok(Outcome::Reads { at, sector }),
+            Request::Writes { at, sector } => Ok(Outcome::Writes { at, sector }),
             Request::Halts => {
                 self.advance();
-                Outcome::Halted
+                Ok(Outcome::Halted)
             }
         }
     }
 
     // The next instruction is done, or ends the processor, or asks something of a device: then nothing has changed yet.
     // Whatever the instruction, r0 stays 0 and memory as long as it was, and bits that no operand uses do not matter.
-    pub fn step(&mut self, memory: &mut [u8]) -> Outcome
+    pub fn step(&mut self, memory: &mut [u8]) -> Result<Outcome, Ending>
         ensures comes { Comes (processor self.old memory.old) result (processor self.new memory.new) }
         ensures sound { StaysSound }
         ensures unused { UnusedBitsIgnored }

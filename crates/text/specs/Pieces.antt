@@ -1,21 +1,14 @@
 -- A text cut at each place that holds a mark.
-use Rattle.std.specs.Prelude.{ℕ, cond, List, [], ◌∷◌, ◌++◌, length, drop, ◌==◌, ◌≢◌, nat_le, count_by}
-use Rattle.std.specs.List.{AllByRecursion}
-
-abbrev pub on_first : ℕ → List (List ℕ) → List (List ℕ)
-on_first c [] = (c ∷ []) ∷ []
-on_first c (p ∷ ps) = (c ∷ p) ∷ ps
+use Rattle.std.specs.Prelude.{ℕ, cond, List, [], length, drop, ◌==◌, ◌≢◌, nat_le, count_by}
+use Rattle.std.specs.List.{AllByRecursion, slice_split, join_with_byte}
 
 -- the pieces between the marks, of which there is at least one
 abbrev pub pieces : ℕ → List ℕ → List (List ℕ)
-pieces mark [] = [] ∷ []
-pieces mark (c ∷ cs) = cond (c == mark) ([] ∷ pieces mark cs) (on_first c (pieces mark cs))
+pieces mark text = slice_split (λ c. c == mark) text
 
 -- pieces with a mark between each and the next
 abbrev pub joined : ℕ → List (List ℕ) → List ℕ
-joined mark [] = []
-joined mark (p ∷ []) = p
-joined mark (p ∷ q ∷ ps) = p ++ (mark ∷ joined mark (q ∷ ps))
+joined mark ps = join_with_byte mark ps
 
 -- no place of a piece holds the mark
 abbrev pub Lacks : ℕ → List ℕ → Type 0

@@ -17,6 +17,7 @@ pub struct FieldReader<'a> {
 }
 
 impl<'a> FieldReader<'a> {
+    #[tactic(auto, using(crate::proofs::Joins::pieces_join, crate::proofs::Joins::pieces_lack))]
     pub fn new(line: &'a [u8]) -> FieldReader<'a>
         ensures value { fields_left result ≡ pieces 9 line.now }
         ensures joins { joined 9 (fields_left result) ≡ line.now }

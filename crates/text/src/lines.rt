@@ -16,6 +16,7 @@ pub struct LineReader<'a> {
 }
 
 impl<'a> LineReader<'a> {
+    #[tactic(auto, using(crate::proofs::Joins::pieces_join, crate::proofs::Joins::pieces_lack))]
     pub fn new(text: &'a [u8]) -> LineReader<'a>
         ensures value { lines_left result ≡ pieces 10 text.now }
         ensures joins { joined 10 (lines_left result) ≡ text.now }

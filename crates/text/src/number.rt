@@ -19,13 +19,6 @@ pub fn read_number(field: &[u8], limit: u32) -> Result<u32, Cause>
     ensures bound { IfOk result (λ n. n ≤ limit) }
     ensures cases { MatchResult result (λ n. Spelled limit field.now n) (λ cause. WrongNumber limit field.now cause) }
 {
-    read_digits(field, limit)
-}
-
-fn read_digits(field: &[u8], limit: u32) -> Result<u32, Cause>
-    ensures reads { result ≡ number_up_to limit field.now }
-    ensures bound { IfOk result (λ n. n ≤ limit) }
-{
     if !is_numeral(field) {
         return Err(Cause::Digits);
     }

@@ -1,8 +1,10 @@
 -- An encoded instruction decodes to itself, and a decoded word is its instruction's but for the unused bits.
-use Rattle.std.proofs.Common.{◌≡◌, ℕ, ◌+◌, ◌*◌, ◌/◌, ◌%◌, ◌^◌, ◌<◌, eqb, ltb, List, [], ◌∷◌, Some, None, sym, refl, ap, ◌∙◌, ⊎_elim, arith}
+use Rattle.std.proofs.Common.{◌≡◌, ℕ, ◌+◌, ◌*◌, ◌/◌, ◌%◌, ◌^◌, ◌<◌, eqb, ltb, Some, None, Option, MatchOption, sym, refl, ap, ◌∙◌, subst, arith}
 use mathlib.Core.HLevel.{is_prop→PathP}
 use native.Mathlib.Bridge.{le_prop}
-use Rattle.std.proofs.lemmas.Bool.{cond-true, cond-false, cases_Bool, eqb-true, ltb-true}
+use Rattle.std.proofs.lemmas.Bool.{eqb-true, ltb-true}
+use Rattle.std.proofs.lemmas.Option.{none-some}
+use Rattle.std.specs.Option.{option_map}
 use Rattle.u5.specs.declared.operand.Register.{Register}
 use Rattle.u5.specs.declared.operand.Immediate.{Immediate}
 use Rattle.u5.specs.declared.operand.Shift.{Shift}
@@ -10,9 +12,9 @@ use Rattle.u5.specs.declared.operation.Operation.{Operation}
 use Rattle.u5.specs.declared.operation.Operation.TheVariants as o
 use Rattle.u5.specs.declared.instruction.Instruction.{Instruction}
 use Rattle.u5.specs.declared.instruction.Instruction.TheVariants.{LoadB, LoadH, LoadW, StoreB, StoreH, StoreW, Add, Mul, Div, Nor, MovI, CMov, In, Out, Read, Write, Halt}
-use Rattle.u5.specs.Operations.{opcode, coded_in, coded, every, unused}
-use Rattle.u5.specs.Words.{operation, encoded, three, two, one, moved, register, immediate, shift, field_a, field_b, field_c, instruction, decoded_as, decoded, Unknown}
-use Rattle.u5.proofs.Tables.{each_operation}
+use Rattle.u5.specs.Operations.{opcode, coded, every, unused}
+use Rattle.u5.specs.Words.{operation, encoded, three, two, one, moved, register, immediate, shift, field_a, field_b, field_c, instruction, decoded, Unknown}
+use Rattle.u5.proofs.Tables.{found_passes, each_operation}
 
 -- operands are known by their numbers
 
@@ -46,28 +48,18 @@ coded_opcode o.Read = refl
 coded_opcode o.Write = refl
 coded_opcode o.Halt = refl
 
-nothing_some : {X : Type 0} (x : X) → None ≡ Some x → ⊥
-nothing_some x e = let z : ◌≡◌ {A = ℕ} 0 1 = cc in omega arith
-
-coded_in_is : (n : ℕ) (ops : List Operation) (op : Operation) → coded_in n ops ≡ Some op → opcode op ≡ n
-coded_in_is n [] op e = absurd (nothing_some op e)
-coded_in_is n (x ∷ xs) op e =
-    ⊎_elim
-    (λ t. let same : Some x ≡ Some op = sym (cond-true (eqb n (opcode x)) _ _ t) ∙ e in let is : x ≡ op = cc in ap opcode (sym is) ∙ sym (eqb-true n (opcode x) t))
-    (λ f. coded_in_is n xs op (sym (cond-false (eqb n (opcode x)) _ _ f) ∙ e))
-    (cases_Bool (eqb n (opcode x)))
-
 pub coded_is : (n : ℕ) (op : Operation) → coded n ≡ Some op → opcode op ≡ n
-coded_is n op e = coded_in_is n (o.LoadB ∷ o.LoadH ∷ o.LoadW ∷ o.StoreB ∷ o.StoreH ∷ o.StoreW ∷ o.Add ∷ o.Mul ∷ o.Div ∷ o.Nor ∷ o.MovI ∷ o.CMov ∷ o.In ∷ o.Out ∷ o.Read ∷ o.Write ∷ o.Halt ∷ []) op e
+unfolding every
+coded_is n op e = sym (eqb-true n (opcode op) (found_passes (λ o. eqb n (opcode o)) every op e))
 
 pub none_coded : (n : ℕ) → coded n ≡ None → Unknown n
-none_coded n e op is = nothing_some op (sym e ∙ ap coded (sym is) ∙ coded_opcode op)
+none_coded n e op is = none-some op (sym e ∙ ap coded (sym is) ∙ coded_opcode op)
 
 -- decoding, from the opcode on
 
 pub from_opcode : (op : Operation) (w : ℕ) → w / 2 ^ 27 ≡ opcode op → decoded w ≡ Some (instruction op w)
 unfolding decoded
-from_opcode op w e = ap (λ x. decoded_as x w) (ap coded e ∙ coded_opcode op)
+from_opcode op w e = ap (option_map (λ o. instruction o w)) (ap coded e ∙ coded_opcode op)
 
 -- an operation with its operands in a word, whatever stands below them
 module _ (op : Operation) (w extra : ℕ) where
@@ -119,26 +111,6 @@ some_unused op = ltb-true 0 (unused op) (each_operation (λ x. ltb 0 (unused x))
 
 pub decodes : (i : Instruction) → decoded (encoded i) ≡ Some i
 decodes i = reads_as i (encoded i) 0 (some_unused (operation i)) (omega arith)
-
--- encoding leaves the unused bits 0
-pub clears : (i : Instruction) → encoded i % unused (operation i) ≡ 0
-clears (LoadB a b c) = omega arith
-clears (LoadH a b c) = omega arith
-clears (LoadW a b c) = omega arith
-clears (StoreB a b c) = omega arith
-clears (StoreH a b c) = omega arith
-clears (StoreW a b c) = omega arith
-clears (Add a b c) = omega arith
-clears (Mul a b c) = omega arith
-clears (Div a b c) = omega arith
-clears (Nor a b c) = omega arith
-clears (MovI r i s) = omega arith
-clears (CMov a b c) = omega arith
-clears (In a) = omega arith
-clears (Out a) = omega arith
-clears (Read a b) = omega arith
-clears (Write a b) = omega arith
-clears Halt = omega arith
 
 -- a word, cut at its fields
 
@@ -205,3 +177,12 @@ restores o.Out w e = one_restores o.Out w e
 restores o.Read w e = two_restores o.Read w e
 restores o.Write w e = two_restores o.Write w e
 restores o.Halt w e = omega arith
+
+cases_of : (w : ℕ) (o : Option Operation) → coded (w / 2 ^ 27) ≡ o → MatchOption (option_map (λ op. instruction op w) o) (Unknown (w / 2 ^ 27)) (λ i. w ≡ encoded i + w % unused (operation i))
+cases_of w (Some op) e = restores op w (coded_is _ op e)
+cases_of w None e = none_coded _ e
+
+-- a word is the encoding of the instruction that it decodes to but for the unused bits, or its opcode is no operation's
+pub decoded_cases : (w : ℕ) (r : Option Instruction) → r ≡ decoded w → MatchOption r (Unknown (w / 2 ^ 27)) (λ i. w ≡ encoded i + w % unused (operation i))
+unfolding decoded
+decoded_cases w r e = subst (λ o. MatchOption o (Unknown (w / 2 ^ 27)) (λ i. w ≡ encoded i + w % unused (operation i))) (sym e) (cases_of w (coded (w / 2 ^ 27)) refl)

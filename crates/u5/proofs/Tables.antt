@@ -1,66 +1,50 @@
 -- A search through a table, turn by turn, and what it finds.
-use Rattle.std.proofs.Common.{◌≡◌, ℕ, zero, suc, ◌+◌, ◌<◌, ◌≤◌, Bool, true, false, cond, ◌&&◌, List, [], ◌∷◌, length, get_or, drop, Some, None, Option, sym, refl, ap, ◌∙◌, subst, ⊎_elim, arith, MatchOption}
-use Rattle.std.proofs.lemmas.List.{at_drop_more, drop_all}
+use Rattle.std.proofs.Common.{◌≡◌, ℕ, zero, suc, ◌+◌, ◌<◌, ◌≤◌, Bool, true, false, ◌&&◌, List, [], ◌∷◌, length, get_or, Some, None, Option, sym, refl, ap, ◌∙◌, subst, ⊎_elim, arith, MatchOption}
 use Rattle.std.proofs.lemmas.Bool.{cond-true, cond-false, cases_Bool, and_parts}
-use Rattle.std.proofs.lemmas.Slice.Eq.{bytes_eq-Decides}
 use Rattle.std.proofs.lemmas.Bool.Decides.{not_from_Decides}
+use Rattle.std.proofs.lemmas.Slice.Eq.{bytes_eq-Decides}
+use Rattle.std.proofs.lemmas.Option.{none-some, same_Some}
 use Rattle.std.proofs.lemmas.List.FromFn.{get_or-range_with_len}
-use Rattle.std.specs.List.{range_with_len, AllByRecursion}
+use Rattle.std.specs.List.{range_with_len, AllByRecursion, find}
+use Rattle.std.specs.Option.{option_map}
 use Rattle.std.specs.Str.{bytes_eq}
+use Rattle.u5.specs.declared.operand.Register.{Register}
 use Rattle.u5.specs.declared.operation.Operation.{Operation}
 use Rattle.u5.specs.declared.operation.Operation.TheVariants.{LoadB, LoadH, LoadW, StoreB, StoreH, StoreW, Add, Mul, Div, Nor, MovI, CMov, In, Out, Read, Write, Halt}
 use Rattle.u5.specs.Tables.{called}
 use Rattle.u5.specs.Operations.{spelling, every, named}
 use Rattle.u5.specs.Registers.{alias, numbers, aliased}
 
-not_true : (b : Bool) → (b ≡ true → ⊥) → b ≡ false
-not_true true h = absurd (h refl)
-not_true false h = refl
+-- what is found in a list passes the test
+pub found_passes : {X : Type 0} (test : X → Bool) (xs : List X) (x : X) → find test xs ≡ Some x → test x ≡ true
+found_passes test [] x e = absurd (none-some x e)
+found_passes test (y ∷ ys) x e =
+    ⊎_elim
+    (λ t. ap test (same_Some x y (sym e ∙ cond-true (test y) _ _ t)) ∙ t)
+    (λ f. found_passes test ys x (sym (cond-false (test y) _ _ f) ∙ e))
+    (cases_Bool (test y))
 
-module _ {X : Type 0} (name : X → List ℕ) (field : List ℕ) (xs : List X) (i : ℕ) (d : X) where
-  here : i < length xs → called name field (drop i xs) ≡ cond (bytes_eq field (name (get_or xs i d))) (Some (get_or xs i d)) (called name field (drop (i + 1) xs))
-  here h = at_drop_more (called name field) xs i d h
+-- what is found in a list is one of it
+pub found_each : {X : Type 0} (test : X → Bool) (P : X → Type 0) (xs : List X) (x : X) → AllByRecursion P xs → find test xs ≡ Some x → P x
+found_each test P [] x all e = absurd (none-some x e)
+found_each test P (y ∷ ys) x (p, all) e =
+    ⊎_elim
+    (λ t. subst P (same_Some y x (sym (cond-true (test y) _ _ t) ∙ e)) p)
+    (λ f. found_each test P ys x all (sym (cond-false (test y) _ _ f) ∙ e))
+    (cases_Bool (test y))
 
-  pub called_found : i < length xs → field ≡ name (get_or xs i d) → called name field (drop i xs) ≡ Some (get_or xs i d)
-  called_found h e = here h ∙ cond-true (bytes_eq field (name (get_or xs i d))) _ _ ((bytes_eq-Decides field (name (get_or xs i d))).1 e)
+head_fails : {X : Type 0} (test : X → Bool) (x : X) (xs : List X) → find test (x ∷ xs) ≡ None → test x ≡ false
+head_fails test x xs e = ⊎_elim (λ t. absurd (none-some x (sym e ∙ cond-true (test x) _ _ t))) (λ f. f) (cases_Bool (test x))
 
-  pub called_passed : i < length xs → (field ≡ name (get_or xs i d) → ⊥) → called name field (drop i xs) ≡ called name field (drop (i + 1) xs)
-  called_passed h e = here h ∙ cond-false (bytes_eq field (name (get_or xs i d))) _ _ (not_true _ (λ t. e ((bytes_eq-Decides field (name (get_or xs i d))).0 t)))
+-- where nothing is found, nothing in the list passes
+pub none_passes : {X : Type 0} (test : X → Bool) (xs : List X) (d : X) → find test xs ≡ None → (k : ℕ) → k < length xs → test (get_or xs k d) ≡ false
+none_passes test [] d e k h = absurd (omega arith)
+none_passes test (x ∷ xs) d e zero h = head_fails test x xs e
+none_passes test (x ∷ xs) d e (suc k) h = none_passes test xs d (sym (cond-false (test x) _ _ (head_fails test x xs e)) ∙ e) k (omega arith)
 
-  pub called_none : length xs ≤ i → called name field (drop i xs) ≡ None
-  called_none h = ap (called name field) (drop_all i xs h)
-
-nothing_some : {X : Type 0} (x : X) → None ≡ Some x → ⊥
-nothing_some x e = let z : ◌≡◌ {A = ℕ} 0 1 = cc in omega arith
-
--- what is found goes by the name
+-- what is found by a name goes by it
 pub called_is : {X : Type 0} (name : X → List ℕ) (field : List ℕ) (xs : List X) (x : X) → called name field xs ≡ Some x → field ≡ name x
-called_is name field [] x e = absurd (nothing_some x e)
-called_is name field (y ∷ ys) x e =
-    ⊎_elim
-    (λ t. let same : Some y ≡ Some x = sym (cond-true (bytes_eq field (name y)) _ _ t) ∙ e in let is : y ≡ x = cc in (bytes_eq-Decides field (name y)).0 t ∙ ap name is)
-    (λ f. called_is name field ys x (sym (cond-false (bytes_eq field (name y)) _ _ f) ∙ e))
-    (cases_Bool (bytes_eq field (name y)))
-
--- what is found is one of the table's
-pub called_each : {X : Type 0} (name : X → List ℕ) (field : List ℕ) (P : X → Type 0) (xs : List X) (x : X) → AllByRecursion P xs → called name field xs ≡ Some x → P x
-called_each name field P [] x all e = absurd (nothing_some x e)
-called_each name field P (y ∷ ys) x (p, all) e =
-    ⊎_elim
-    (λ t. let same : Some y ≡ Some x = sym (cond-true (bytes_eq field (name y)) _ _ t) ∙ e in let is : y ≡ x = cc in rw (sym is) p)
-    (λ f. called_each name field P ys x all (sym (cond-false (bytes_eq field (name y)) _ _ f) ∙ e))
-    (cases_Bool (bytes_eq field (name y)))
-
-not_here : {X : Type 0} (name : X → List ℕ) (field : List ℕ) (x : X) (xs : List X) → called name field (x ∷ xs) ≡ None → bytes_eq field (name x) ≡ false
-not_here name field x xs e =
-    not_true (bytes_eq field (name x)) (λ t. nothing_some x (sym e ∙ cond-true (bytes_eq field (name x)) (Some x) (called name field xs) t))
-
--- where nothing is found, nothing in the table goes by the name
-pub none_called : {X : Type 0} (name : X → List ℕ) (field : List ℕ) (xs : List X) (d : X) → called name field xs ≡ None → (k : ℕ) → k < length xs → field ≡ name (get_or xs k d) → ⊥
-none_called name field [] d e k h is = omega arith
-none_called name field (x ∷ xs) d e zero h is = not_from_Decides (bytes_eq field (name x)) (bytes_eq-Decides field (name x)) (not_here name field x xs e) is
-none_called name field (x ∷ xs) d e (suc k) h is =
-    none_called name field xs d (sym (cond-false (bytes_eq field (name x)) (Some x) (called name field xs) (not_here name field x xs e)) ∙ e) k (omega arith) is
+called_is name field xs x e = (bytes_eq-Decides field (name x)).0 (found_passes (λ y. bytes_eq field (name y)) xs x e)
 
 -- operations
 
@@ -88,7 +72,7 @@ pub named_is : (field : List ℕ) (o : Operation) → named field ≡ Some o →
 named_is field o e = called_is spelling field every o e
 
 pub none_named : (field : List ℕ) → named field ≡ None → (o : Operation) → field ≡ spelling o → ⊥
-none_named field e o is = nothing_some o (sym e ∙ ap named is ∙ named_spelling o)
+none_named field e o is = none-some o (sym e ∙ ap named is ∙ named_spelling o)
 
 pub named_cases : (field : List ℕ) (r : Option Operation) → r ≡ named field → MatchOption r ((o : Operation) → field ≡ spelling o → ⊥) (λ o. field ≡ spelling o)
 named_cases field (Some o) e = named_is field o (sym e)
@@ -113,21 +97,16 @@ unfolding numbers
 numbers_below = each_below 0 64 (omega arith)
 
 pub none_aliased : (field : List ℕ) → aliased field ≡ None → (n : ℕ) → n < 64 → field ≡ alias n → ⊥
-none_aliased field e n h is = none_called alias field numbers 0 e n (omega (arith, all_numbers)) (is ∙ ap alias (sym (at_number n h)))
+none_aliased field e n h is =
+    let fails = none_passes (λ m. bytes_eq field (alias m)) numbers 0 e n (omega (arith, all_numbers)) in
+    not_from_Decides _ (bytes_eq-Decides field (alias (get_or numbers n 0))) fails (is ∙ ap alias (sym (at_number n h)))
 
 pub aliased_is : (field : List ℕ) (n : ℕ) → aliased field ≡ Some n → (n < 64) × (field ≡ alias n)
-aliased_is field n e = (called_each alias field (λ m. m < 64) numbers n numbers_below e, called_is alias field numbers n e)
+aliased_is field n e = (found_each (λ m. bytes_eq field (alias m)) (λ m. m < 64) numbers n numbers_below e, called_is alias field numbers n e)
 
--- one turn of the search for an alias
-module _ (field : List ℕ) (n : ℕ) (h : n < 64) where
-  pub alias_found : field ≡ alias n → called alias field (drop n numbers) ≡ Some n
-  alias_found e = called_found alias field numbers n 0 (omega (arith, all_numbers)) (e ∙ ap alias (sym (at_number n h))) ∙ ap Some (at_number n h)
-
-  pub alias_passed : (field ≡ alias n → ⊥) → called alias field (drop n numbers) ≡ called alias field (drop (n + 1) numbers)
-  alias_passed ne = called_passed alias field numbers n 0 (omega (arith, all_numbers)) (λ e. ne (e ∙ ap alias (at_number n h)))
-
-pub alias_none : (field : List ℕ) (n : ℕ) → 64 ≤ n → called alias field (drop n numbers) ≡ None
-alias_none field n h = called_none alias field numbers n 0 (omega (arith, all_numbers))
+pub aliased_cases : (field : List ℕ) (r : Option Register) → option_map (λ g. g.number) r ≡ aliased field → MatchOption r ((g : Register) → field ≡ alias g.number → ⊥) (λ g. field ≡ alias g.number)
+aliased_cases field (Some g) e = (aliased_is field g.number (sym e)).1
+aliased_cases field None e = λ g. none_aliased field (sym e) g.number g.below
 
 -- a test of the whole table holds at each operation
 

@@ -1,5 +1,6 @@
 -- The operations: how each is spelled, its opcode, and where its operands stand in a word.
-use Rattle.std.specs.Prelude.{ℕ, ◌^◌, cond, List, [], ◌∷◌, Some, None, codes, Option, ◌==◌}
+use Rattle.std.specs.Prelude.{ℕ, ◌^◌, List, [], ◌∷◌, codes, Option, ◌==◌}
+use Rattle.std.specs.List.{find}
 use Rattle.u5.specs.declared.operation.Operation.{Operation}
 use Rattle.u5.specs.declared.operation.Operation.TheVariants.{LoadB, LoadH, LoadW, StoreB, StoreH, StoreW, Add, Mul, Div, Nor, MovI, CMov, In, Out, Read, Write, Halt}
 use Rattle.u5.specs.declared.operation.Kind.{Kind}
@@ -89,11 +90,6 @@ every = LoadB ∷ LoadH ∷ LoadW ∷ StoreB ∷ StoreH ∷ StoreW ∷ Add ∷ M
 abbrev pub named : List ℕ → Option Operation
 named field = called spelling field every
 
--- the first of some operations that has this opcode
-abbrev pub coded_in : ℕ → List Operation → Option Operation
-coded_in n [] = None
-coded_in n (o ∷ os) = cond (n == opcode o) (Some o) (coded_in n os)
-
 -- the operation with this opcode
 abbrev pub coded : ℕ → Option Operation
-coded n = coded_in n (LoadB ∷ LoadH ∷ LoadW ∷ StoreB ∷ StoreH ∷ StoreW ∷ Add ∷ Mul ∷ Div ∷ Nor ∷ MovI ∷ CMov ∷ In ∷ Out ∷ Read ∷ Write ∷ Halt ∷ [])
+coded n = find (λ o. n == opcode o) (LoadB ∷ LoadH ∷ LoadW ∷ StoreB ∷ StoreH ∷ StoreW ∷ Add ∷ Mul ∷ Div ∷ Nor ∷ MovI ∷ CMov ∷ In ∷ Out ∷ Read ∷ Write ∷ Halt ∷ [])

@@ -1,6 +1,7 @@
 -- The words that encode the instructions. From its top bit down an R word has five bits of opcode, six of A, six of B, six of C and nine unused;
 -- an I word has the five bits 10000, six bits of R, sixteen of I and five of S.
-use Rattle.std.specs.Prelude.{ℕ, ◌+◌, ◌*◌, ◌/◌, ◌%◌, ◌^◌, List, [], ◌∷◌, Some, None, Option, ◌≢◌}
+use Rattle.std.specs.Prelude.{ℕ, ◌+◌, ◌*◌, ◌/◌, ◌%◌, ◌^◌, List, [], ◌∷◌, Option, ◌≢◌}
+use Rattle.std.specs.Option.{option_map}
 use Rattle.std.proofs.Common.{arith}
 use Rattle.u5.specs.declared.operand.Register.{Register}
 use Rattle.u5.specs.declared.operand.Immediate.{Immediate}
@@ -127,13 +128,9 @@ instruction o.Read w = Read (field_a w) (field_b w)
 instruction o.Write w = Write (field_a w) (field_b w)
 instruction o.Halt w = Halt
 
-abbrev pub decoded_as : Option Operation → ℕ → Option Instruction
-decoded_as (Some op) w = Some (instruction op w)
-decoded_as None w = None
-
 -- the instruction that a word encodes: the opcode says the operation, and bits that it does not use are ignored
 unfoldable pub decoded : ℕ → Option Instruction
-decoded w = decoded_as (coded (w / 2 ^ 27)) w
+decoded w = option_map (λ op. instruction op w) (coded (w / 2 ^ 27))
 
 -- no operation has this opcode
 abbrev pub Unknown : ℕ → Type 0

@@ -1,5 +1,5 @@
 // The names that registers go by.
-ghost use Rattle.std.specs.Prelude.{◌≡◌, MatchOption, ◌≢◌};
+ghost use Rattle.std.specs.Prelude.{◌≡◌, ◌<◌, MatchOption, ◌≢◌};
 ghost use Rattle.std.specs.Option.{option_map};
 ghost use Rattle.u5.specs.Registers.{alias, aliased};
 
@@ -74,7 +74,7 @@ impl Register {
             61 => b"gp",
             62 => b"sp",
             63 => b"pc",
-            _ => unreachable(),
+            _ => unreachable!(),
         }
     }
 
@@ -83,12 +83,15 @@ impl Register {
         ensures reads { option_map (λ g. g.number) result ≡ aliased field.now }
         ensures cases { MatchOption result ((g : Register) → field.now ≢ alias g.number) (λ g. field.now ≡ alias g.number) }
     {
-        for number in 0..64u8 {
-            let register = Register { number };
-            if field == register.alias() {
-                return Some(register);
-            }
-        }
-        None
+        (0..64)
+            .map(Register::numbered)
+            .find(|register| field == register.alias())
+    }
+
+    fn numbered(number: u8) -> Register
+        requires { number < 64 }
+        ensures { result.number ≡ number }
+    {
+        Register { number }
     }
 }

@@ -1,7 +1,7 @@
 // Words to instructions, and back.
 ghost use Rattle.std.specs.Prelude.{◌≡◌, ◌+◌, ◌*◌, ◌/◌, ◌%◌, ◌^◌, ◌<◌, Some, MatchOption};
-ghost use Rattle.u5.specs.Operations.{opcode, unused};
-ghost use Rattle.u5.specs.Words.{register, immediate, shift, instruction, decoded, encoded, operation, three, two, one, bare, moved, Unknown};
+ghost use Rattle.u5.specs.Operations.{unused};
+ghost use Rattle.u5.specs.Words.{register, immediate, shift, instruction, decoded, encoded, operation, bare, Unknown};
 
 use crate::instruction::Instruction;
 use crate::operand::{Immediate, Register, Shift};
@@ -65,49 +65,13 @@ fn instruction_of(operation: Operation, word: u32) -> Instruction
     }
 }
 
-fn encode_three(operation: Operation, a: Register, b: Register, c: Register) -> u32
-    ensures { result ≡ three operation a b c }
-{
-    operation.opcode() * 0x800_0000
-        + u32::from(a.number) * 0x20_0000
-        + u32::from(b.number) * 0x8000
-        + u32::from(c.number) * 0x200
-}
-
-fn encode_two(operation: Operation, a: Register, b: Register) -> u32
-    ensures { result ≡ two operation a b }
-{
-    operation.opcode() * 0x800_0000 + u32::from(a.number) * 0x20_0000 + u32::from(b.number) * 0x8000
-}
-
-fn encode_one(operation: Operation, a: Register) -> u32
-    ensures { result ≡ one operation a }
-{
-    operation.opcode() * 0x800_0000 + u32::from(a.number) * 0x20_0000
-}
-
-fn encode_bare(operation: Operation) -> u32
-    ensures { result ≡ bare operation }
-{
-    operation.opcode() * 0x800_0000
-}
-
-fn encode_moved(r: Register, i: Immediate, s: Shift) -> u32
-    ensures { result ≡ moved r i s }
-{
-    0x8000_0000 + u32::from(r.number) * 0x20_0000 + u32::from(i.value) * 32 + u32::from(s.places)
-}
-
 impl Instruction {
     // The instruction that the word encodes, whatever stands in its unused bits.
     pub fn decode(word: u32) -> Option<Instruction>
         ensures value { result ≡ decoded word }
         ensures cases { MatchOption result (Unknown (word / 2 ^ 27)) (λ i. word ≡ encoded i + word % unused (operation i)) }
     {
-        match Operation::coded(word >> 27) {
-            Some(operation) => Some(instruction_of(operation, word)),
-            None => None,
-        }
+        Operation::coded(word >> 27).map(|operation| instruction_of(operation, word))
     }
 
     pub fn operation(self) -> Operation
@@ -140,30 +104,37 @@ impl Instruction {
         ensures decodes { decoded result ≡ Some self }
         ensures clear { result % unused (operation self) ≡ 0 }
     {
-        self.word()
+        self.operation().opcode() * 0x800_0000 + self.operands()
     }
 
-    fn word(self) -> u32
-        ensures { result ≡ encoded self }
+    // The operands, each at its place in the word.
+    fn operands(self) -> u32
+        ensures { bare (operation self) + result ≡ encoded self }
     {
         match self {
-            Instruction::LoadB { a, b, c } => encode_three(Operation::LoadB, a, b, c),
-            Instruction::LoadH { a, b, c } => encode_three(Operation::LoadH, a, b, c),
-            Instruction::LoadW { a, b, c } => encode_three(Operation::LoadW, a, b, c),
-            Instruction::StoreB { a, b, c } => encode_three(Operation::StoreB, a, b, c),
-            Instruction::StoreH { a, b, c } => encode_three(Operation::StoreH, a, b, c),
-            Instruction::StoreW { a, b, c } => encode_three(Operation::StoreW, a, b, c),
-            Instruction::Add { a, b, c } => encode_three(Operation::Add, a, b, c),
-            Instruction::Mul { a, b, c } => encode_three(Operation::Mul, a, b, c),
-            Instruction::Div { a, b, c } => encode_three(Operation::Div, a, b, c),
-            Instruction::Nor { a, b, c } => encode_three(Operation::Nor, a, b, c),
-            Instruction::MovI { r, i, s } => encode_moved(r, i, s),
-            Instruction::CMov { a, b, c } => encode_three(Operation::CMov, a, b, c),
-            Instruction::In { a } => encode_one(Operation::In, a),
-            Instruction::Out { a } => encode_one(Operation::Out, a),
-            Instruction::Read { a, b } => encode_two(Operation::Read, a, b),
-            Instruction::Write { a, b } => encode_two(Operation::Write, a, b),
-            Instruction::Halt => encode_bare(Operation::Halt),
+            Instruction::LoadB { a, b, c }
+            | Instruction::LoadH { a, b, c }
+            | Instruction::LoadW { a, b, c }
+            | Instruction::StoreB { a, b, c }
+            | Instruction::StoreH { a, b, c }
+            | Instruction::StoreW { a, b, c }
+            | Instruction::Add { a, b, c }
+            | Instruction::Mul { a, b, c }
+            | Instruction::Div { a, b, c }
+            | Instruction::Nor { a, b, c }
+            | Instruction::CMov { a, b, c } => {
+                u32::from(a.number) * 0x20_0000
+                    + u32::from(b.number) * 0x8000
+                    + u32::from(c.number) * 0x200
+            }
+            Instruction::MovI { r, i, s } => {
+                u32::from(r.number) * 0x20_0000 + u32::from(i.value) * 32 + u32::from(s.places)
+            }
+            Instruction::In { a } | Instruction::Out { a } => u32::from(a.number) * 0x20_0000,
+            Instruction::Read { a, b } | Instruction::Write { a, b } => {
+                u32::from(a.number) * 0x20_0000 + u32::from(b.number) * 0x8000
+            }
+            Instruction::Halt => 0,
         }
     }
 }

@@ -2,7 +2,7 @@
 use crate::operand::{Immediate, Register, Shift};
 
 // An operation with its operands: A, B and C are registers, R I S a register, an immediate and a shift.
-#[derive(Clone, Copy)]
+#[derive(Clone, Copy, PartialEq, Eq, Debug)]
 pub enum Instruction {
     LoadB {
         a: Register,

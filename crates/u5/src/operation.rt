@@ -2,36 +2,36 @@
 ghost use Rattle.std.specs.Prelude.{◌≡◌, ◌<◌, All, MatchOption, ◌≢◌};
 ghost use Rattle.u5.specs.Operations.{spelling, opcode, slots, unused, named, coded};
 
-#[derive(Clone, Copy)]
+#[derive(Clone, Copy, PartialEq, Eq, Debug)]
 pub enum Operation {
-    LoadB,
-    LoadH,
-    LoadW,
-    StoreB,
-    StoreH,
-    StoreW,
-    Add,
-    Mul,
-    Div,
-    Nor,
-    MovI,
-    CMov,
-    In,
-    Out,
-    Read,
-    Write,
-    Halt,
+    LoadB = 0,
+    LoadH = 1,
+    LoadW = 2,
+    StoreB = 4,
+    StoreH = 5,
+    StoreW = 6,
+    Add = 8,
+    Mul = 9,
+    Div = 10,
+    Nor = 11,
+    MovI = 16,
+    CMov = 18,
+    In = 24,
+    Out = 25,
+    Read = 26,
+    Write = 27,
+    Halt = 31,
 }
 
 // What an operand is: a register, or a number up to a limit.
-#[derive(Clone, Copy)]
+#[derive(Clone, Copy, PartialEq, Eq, Debug)]
 pub enum Kind {
     Register,
     Number(u32),
 }
 
 // The place of an operand in a word: the weight of its lowest bit.
-#[derive(Clone, Copy)]
+#[derive(Clone, Copy, PartialEq, Eq, Debug)]
 pub struct Slot {
     pub kind: Kind,
     pub weight: u32,
@@ -112,25 +112,7 @@ impl Operation {
         ensures value { result ≡ opcode self }
         ensures bound { result < 32 }
     {
-        match self {
-            Operation::LoadB => 0,
-            Operation::LoadH => 1,
-            Operation::LoadW => 2,
-            Operation::StoreB => 4,
-            Operation::StoreH => 5,
-            Operation::StoreW => 6,
-            Operation::Add => 8,
-            Operation::Mul => 9,
-            Operation::Div => 10,
-            Operation::Nor => 11,
-            Operation::MovI => 16,
-            Operation::CMov => 18,
-            Operation::In => 24,
-            Operation::Out => 25,
-            Operation::Read => 26,
-            Operation::Write => 27,
-            Operation::Halt => 31,
-        }
+        self as u32
     }
 
     // The places of the operands, in order. That each weighs stands here: a static holds no struct with a ghost field.
@@ -173,12 +155,7 @@ impl Operation {
         ensures reads { result ≡ named field.now }
         ensures cases { MatchOption result ((o : Operation) → field.now ≢ spelling o) (λ o. field.now ≡ spelling o) }
     {
-        for op in OPERATIONS {
-            if field == op.spelling() {
-                return Some(op);
-            }
-        }
-        None
+        OPERATIONS.iter().copied().find(|o| field == o.spelling())
     }
 
     // The operation with this opcode.
