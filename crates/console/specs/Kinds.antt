@@ -1,5 +1,5 @@
 -- What the two kinds of console mean by what they hold.
-use Rattle.std.specs.Prelude.{ℕ, ◌-◌, List, [], length, drop}
+use Rattle.std.specs.Prelude.{ℕ, ◌-◌, List, [], length}
 use Rattle.std.specs.List.{between}
 use Rattle.console.specs.Consoles.{Kind, Console}
 
@@ -20,9 +20,9 @@ abbrev pub scripted_kind : Kind
 scripted_kind = record { slot_back = 0; paper_back = 0 }
 
 -- A script has what was not taken of its text waiting, no slots, and as paper what is behind the printed bytes in its buffer.
-abbrev pub scripted : List ℕ → ℕ → List ℕ → ℕ → ℕ → Console
-scripted text taken paper pulled printed = record {
-  waiting = drop taken text;
+abbrev pub scripted : List ℕ → List ℕ → ℕ → ℕ → Console
+scripted waiting paper pulled printed = record {
+  waiting = waiting;
   slots = 0;
   printed = between pulled printed paper;
   paper = length paper - printed;

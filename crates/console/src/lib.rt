@@ -5,17 +5,18 @@ ghost use Rattle.std.specs.Prelude.{◌≡◌, ◌≤◌, length};
 ghost use Rattle.console.specs.Consoles.{Console as Meaning, Kind, Takes, Puts, Offers, Pulls};
 
 mod keyboard;
+mod ring;
 mod script;
 
 pub use keyboard::Keyboard;
 pub use script::Script;
 
 // A printed byte finds no place on the paper.
-#[derive(Clone, Copy)]
+#[derive(Clone, Copy, PartialEq, Eq, Debug)]
 pub struct NoPaper;
 
 // An offered byte finds no slot to wait in.
-#[derive(Clone, Copy)]
+#[derive(Clone, Copy, PartialEq, Eq, Debug)]
 pub struct NoSlot;
 
 // A console as its user and its machine see it.
@@ -26,16 +27,15 @@ pub trait Console {
     // How many paper places a pulled byte gives back, 0 or 1.
     const Q: u8;
 
-    // The two figures for the clauses, which can't name a constant of a trait; `figures` ties them.
+    // The two constants for the clauses. A `ghost P` beside `const P` gets no proof yet for an impl with a lifetime, as Script's.
     ghost kind: { Kind };
 
     // What waits and is printed, and the room for more.
     ghost meaning: { Self → Meaning };
 
-    // The two figures of this kind of console.
+    // The two constants of this kind of console.
     fn figures() -> (u8, u8)
-        ensures value { result ≡ (kind.slot_back, kind.paper_back) }
-        ensures bound { (result.0 ≤ 1) × (result.1 ≤ 1) };
+        ensures { result ≡ (kind.slot_back, kind.paper_back) };
 
     // The first byte that waits.
     fn take(&mut self) -> Option<u8>
@@ -56,4 +56,7 @@ pub trait Console {
     // How many bytes are printed and not pulled yet.
     fn printed(&self) -> usize
         ensures { result ≡ length (meaning self.now).printed };
+
+    // A law: each of the two is at most 1.
+    ghost bound: { (kind.slot_back ≤ 1) × (kind.paper_back ≤ 1) };
 }

@@ -1,33 +1,31 @@
 // A console for a machine that runs alone: a text waits, and what is printed goes to a lent buffer.
 ghost use Rattle.std.specs.Prelude.{◌≡◌, ◌≤◌, length};
 ghost use Rattle.console.specs.Kinds.{scripted, starting_scripted, scripted_kind};
+ghost use Rattle.std.proofs.Common.{rules};
 
 use crate::{Console, NoPaper, NoSlot};
+use std::ops::Range;
 
-// The text from `taken` on waits. The paper before `printed` is used up, and its bytes before `pulled` are gone.
+// The printed bytes are a range of the lent paper, which has no heap behind it: before the range are bytes that were pulled.
 #[derive(Drop)]
 pub struct Script<'a> {
-    text: &'a [u8],
-    taken: usize,
+    waiting: &'a [u8],
     paper: &'a mut [u8],
-    pulled: usize,
-    printed: usize,
-    ghost order: { pulled ≤ printed },
-    ghost within: { printed ≤ length paper.now },
+    printed: Range<usize>,
+    ghost order: { printed.start ≤ printed.«end» },
+    ghost within: { printed.«end» ≤ length paper.now },
 }
 
 impl<'a> Script<'a> {
     // The whole text waits, and the whole buffer is paper.
     pub fn new(text: &'a [u8], paper: &'a mut [u8]) -> Script<'a>
-        ensures starts { scripted result.text.now result.taken result.paper.now result.pulled result.printed ≡ starting_scripted text.now (length paper.old) }
+        ensures starts { scripted result.waiting.now result.paper.now result.printed.start result.printed.«end» ≡ starting_scripted text.now (length paper.old) }
         ensures lender { result.paper.ghost_name ≡ paper.entry.ghost_name }
     {
         Script {
-            text,
-            taken: 0,
+            waiting: text,
             paper,
-            pulled: 0,
-            printed: 0,
+            printed: 0..0,
         }
     }
 }
@@ -39,33 +37,29 @@ impl Console for Script<'_> {
 
     ghost kind = { scripted_kind };
 
-    ghost meaning = { λ s. scripted s.text.now s.taken s.paper.now s.pulled s.printed };
+    ghost meaning = { λ s. scripted s.waiting.now s.paper.now s.printed.start s.printed.«end» };
+
+    ghost bound = { Prim.search rules };
 
     fn figures() -> (u8, u8)
-        ensures value { result ≡ (scripted_kind.slot_back, scripted_kind.paper_back) }
-        ensures bound { (result.0 ≤ 1) × (result.1 ≤ 1) }
+        ensures { result ≡ (scripted_kind.slot_back, scripted_kind.paper_back) }
     {
         (Self::P, Self::Q)
     }
 
     fn take(&mut self) -> Option<u8> {
-        if self.taken < self.text.len() {
-            let byte = self.text[self.taken];
-            self.taken += 1;
-            Some(byte)
-        } else {
-            None
-        }
+        let (&byte, rest) = self.waiting.split_first()?;
+        self.waiting = rest;
+        Some(byte)
     }
 
     fn put(&mut self, byte: u8) -> Result<(), NoPaper> {
-        if self.printed < self.paper.len() {
-            self.paper[self.printed] = byte;
-            self.printed += 1;
-            Ok(())
-        } else {
-            Err(NoPaper)
+        if self.printed.end == self.paper.len() {
+            return Err(NoPaper);
         }
+        self.paper[self.printed.end] = byte;
+        self.printed.end += 1;
+        Ok(())
     }
 
     // A script has no slots.
@@ -74,16 +68,11 @@ impl Console for Script<'_> {
     }
 
     fn pull(&mut self) -> Option<u8> {
-        if self.pulled < self.printed {
-            let byte = self.paper[self.pulled];
-            self.pulled += 1;
-            Some(byte)
-        } else {
-            None
-        }
+        let at = self.printed.next()?;
+        Some(self.paper[at])
     }
 
     fn printed(&self) -> usize {
-        self.printed - self.pulled
+        self.printed.len()
     }
 }

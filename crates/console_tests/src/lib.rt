@@ -24,32 +24,26 @@ pub fn drain<C: Console>(console: &mut C) -> usize
     count
 }
 
+// How many of 0, 1, 2 and so on are accepted before one is not, of so many at most.
+fn accepted<F: FnMut(u8) -> bool>(most: u16, mut accepts: F) -> u16
+    requires { (f : _) (byte : _) → F.pre f byte }
+{
+    (0..most)
+        .find(|n| !accepts((n % 256) as u8))
+        .unwrap_or(most)
+}
+
 // Offers 0, 1, 2 and so on until there is no slot, and says how many went: at most 1,000.
 pub fn offer_all<C: Console>(console: &mut C) -> u16 {
-    for n in 0..1000u16 {
-        if console.offer((n % 256) as u8).is_err() {
-            return n;
-        }
-    }
-    1000
+    accepted(1000, |byte| console.offer(byte).is_ok())
 }
 
 // Prints 0, 1, 2 and so on until there is no paper, and says how many went: at most 10,000.
 pub fn put_all<C: Console>(console: &mut C) -> u16 {
-    for n in 0..10000u16 {
-        if console.put((n % 256) as u8).is_err() {
-            return n;
-        }
-    }
-    10000
+    accepted(10_000, |byte| console.put(byte).is_ok())
 }
 
 // Whether the next bytes to take are those from one number on, up to before another.
 pub fn takes<C: Console>(console: &mut C, from: u16, to: u16) -> bool {
-    for n in from..to {
-        if console.take() != Some((n % 256) as u8) {
-            return false;
-        }
-    }
-    true
+    (from..to).all(|n| console.take() == Some((n % 256) as u8))
 }

@@ -1,2 +1,3 @@
 -- Lemmas on images.
 pub mod Rewriting
+pub mod Chunks

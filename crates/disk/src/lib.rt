@@ -2,28 +2,19 @@
 #![tactic(auto)]
 
 ghost use Rattle.std.specs.Prelude.{◌≡◌, ℕ, Bool, List, length};
-ghost use Rattle.disk.specs.Disks.{disk, Whole, Reads, ReadsInto, Writes};
+ghost use Rattle.disk.specs.Disks.{disk, Whole, Reads, Writes};
 
 mod image;
-mod read_only;
 mod sectors;
 
-pub use image::Image;
-pub use read_only::ReadOnlyImage;
+pub use image::{Image, Lent, ReadOnlyImage};
 
 // The disk has no sector of that number.
-#[derive(Clone, Copy)]
+#[derive(Clone, Copy, PartialEq, Eq, Debug)]
 pub struct NoSuchSector;
 
-// Why a read into a lent part of memory is not done.
-#[derive(Clone, Copy)]
-pub enum ReadRefusal {
-    NoSuchSector,
-    NotOneSector,
-}
-
 // Why a write is not done: there is no such sector, or it is not kept and no keep is left.
-#[derive(Clone, Copy)]
+#[derive(Clone, Copy, PartialEq, Eq, Debug)]
 pub enum WriteRefusal {
     NoSuchSector,
     NoKeep,
@@ -34,9 +25,6 @@ pub trait Readable {
     // The sectors, each a list of its bytes.
     ghost sectors: { Self → List (List ℕ) };
 
-    // They are whole: each impl gives the proof, so that whoever has a disk has it.
-    ghost whole: { (d : Self) → Whole (sectors d) };
-
     // How many sectors there are.
     fn count(&self) -> u32
         ensures { result ≡ length (sectors self.now) };
@@ -45,22 +33,8 @@ pub trait Readable {
     fn read(&self, sector: u32, block: &mut [u8; 512]) -> Result<(), NoSuchSector>
         ensures { Reads (sectors self.now) sector block.old result block.new };
 
-    // The same for a lent part of a longer buffer, which has to be as long as a sector.
-    fn read_into(&self, sector: u32, part: &mut [u8]) -> Result<(), ReadRefusal>
-        ensures { ReadsInto (sectors self.now) sector part.old result part.new }
-    {
-        let mut block = [0; 512];
-        match self.read(sector, &mut block) {
-            Ok(()) => {
-                if part.len() != 512 {
-                    return Err(ReadRefusal::NotOneSector);
-                }
-                part.copy_from_slice(&block);
-                Ok(())
-            }
-            Err(_) => Err(ReadRefusal::NoSuchSector),
-        }
-    }
+    // A law: the sectors are whole.
+    ghost whole: { (d : Self) → Whole (sectors d) };
 }
 
 // A disk that can also be written: some sectors are kept, and so many more can be.

@@ -1,3 +1,0 @@
--- Lemmas on what a console holds.
-pub mod Sheets
-pub mod Rings

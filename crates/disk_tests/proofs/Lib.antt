@@ -1,0 +1,2 @@
+-- Lemmas on any disk.
+pub mod Lending
