@@ -9,6 +9,7 @@ use processor::ending::Ending;
 use processor::registers::Registers;
 
 // Where marks are looked for: registers, memory and disk, and how the station ended.
+#[derive(Drop)]
 pub struct Remains<'a, D: Readable> {
     pub registers: &'a Registers,
     pub memory: &'a [u8],
@@ -47,7 +48,7 @@ impl<D: Readable> Remains<'_, D> {
                 byte,
                 ..
             } => on_disk(self.disk, sector, offset, byte),
-            Mark::Ends { ending, .. } => self.ending.same(ending),
+            Mark::Ends { ending, .. } => self.ending == ending,
         }
     }
 

@@ -1,15 +1,19 @@
 -- What a processor does at its disk and its console.
-use Rattle.std.specs.Prelude.{◌≡◌, ℕ, zero, suc, ◌<◌, List, []}
+use Rattle.std.specs.Prelude.{◌≡◌, ℕ, zero, suc, ◌<◌, List, [], Ok, Err, Result}
 use Rattle.processor.specs.declared.ending.Ending.{Ending}
-use Rattle.processor.specs.declared.ending.Ending.TheVariants.{Halt}
+use Rattle.processor.specs.declared.ending.Ending.TheVariants.{Halt, Sector}
 use Rattle.processor.specs.declared.ending.Want.{Want}
 use Rattle.processor.specs.declared.ending.Want.TheVariants.{Input, Paper, Keep}
 use Rattle.processor.specs.Machine.{Processor, Action, ends, goes, takes, prints, writes, halts}
 use Rattle.processor.specs.Effects.{action}
 use Rattle.disk.specs.Disks.{Disk, Written, Unkept}
 use Rattle.console.specs.Consoles.{Kind, Console, Taken, Put}
-use Rattle.station.specs.declared.answer.Trial.{Trial}
-use Rattle.station.specs.declared.answer.Trial.TheVariants.{Done, Halted, Lacking, Impossible}
+use Rattle.disk.specs.declared.WriteRefusal.{WriteRefusal}
+use Rattle.disk.specs.declared.WriteRefusal.TheVariants.{NoSuchSector, NoKeep}
+use Rattle.station.specs.declared.attempt.Executed.{Executed}
+use Rattle.station.specs.declared.attempt.Executed.TheVariants.{Going, Halted}
+use Rattle.station.specs.declared.attempt.Obstacle.{Obstacle}
+use Rattle.station.specs.declared.attempt.Obstacle.TheVariants.{Lacking, Impossible}
 use Rattle.station.specs.declared.answer.Stop.{Stop}
 use Rattle.station.specs.declared.answer.Stop.TheVariants.{Spent, Wants, Ended}
 
@@ -47,11 +51,21 @@ pub data Lacks (act : Action) (m : Machine) : Want → Type 0 where
   no_keep : {sector : ℕ} {block : List ℕ} {p : Processor} → act ≡ writes sector block p → Unkept m.disk sector → Lacks act m Keep
 
 -- What comes of an attempt to do what an instruction asks: where it is not done, nothing has changed.
-abbrev pub Tries : Kind → Action → Machine → Trial → Machine → Type 0
-Tries kind act m Done m' = Step kind act m m'
-Tries kind act m Halted m' = Halts act m m'
-Tries kind act m (Lacking want) m' = Lacks act m want × (m' ≡ m)
-Tries kind act m (Impossible e) m' = (act ≡ ends e) × (m' ≡ m)
+abbrev pub Tries : Kind → Action → Machine → Result Executed Obstacle → Machine → Type 0
+Tries kind act m (Ok Going) m' = Step kind act m m'
+Tries kind act m (Ok Halted) m' = Halts act m m'
+Tries kind act m (Err (Lacking want)) m' = Lacks act m want × (m' ≡ m)
+Tries kind act m (Err (Impossible e)) m' = (act ≡ ends e) × (m' ≡ m)
+
+-- what a refused write keeps an instruction from
+abbrev pub obstacle : WriteRefusal → Obstacle
+obstacle NoSuchSector = Impossible Sector
+obstacle NoKeep = Lacking Keep
+
+-- how a run stops there
+abbrev pub stop_at : Obstacle → Stop
+stop_at (Lacking want) = Wants want
+stop_at (Impossible e) = Ended e
 
 -- A number of steps, one after another.
 pub data Steps (kind : Kind) (m : Machine) : ℕ → Machine → Type 0 where

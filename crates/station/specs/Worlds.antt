@@ -13,6 +13,7 @@ use Rattle.station.specs.declared.answer.StartRefusal.{StartRefusal}
 use Rattle.station.specs.declared.answer.StartRefusal.TheVariants.{Length, Uncollected, NoSector}
 use Rattle.station.specs.declared.answer.TallyRefusal.{TallyRefusal}
 use Rattle.station.specs.declared.answer.TallyRefusal.TheVariants as tally
+use Rattle.sheet.specs.declared.refusal.SheetRefusal.{SheetRefusal}
 use Rattle.sheet.specs.declared.refusal.SheetRefusal.TheVariants as sheet
 use Rattle.sheet.specs.Sheets.{Gives}
 use Rattle.station.specs.declared.unit.Phase.{Phase}
@@ -109,6 +110,11 @@ pub record Collects (kind : Kind) (w : World) (buffer : List ℕ) (came : ℕ) (
   pub fits_buffer : came ≤ length buffer
   pub rest_same : drop came buffer' ≡ drop came buffer
   pub aside : Aside w w'
+
+-- a sheet that gives no points is a tally's refusal
+abbrev pub untold : SheetRefusal → TallyRefusal
+untold sheet.TooLong = tally.TooLong
+untold (sheet.Form fault) = tally.Form fault
 
 -- What a tally by a sheet answers, of registers and memory, a phase and sectors: it changes nothing.
 abbrev pub Tallies : Processor → Phase → List (List ℕ) → List ℕ → Result ℕ TallyRefusal → Type 0

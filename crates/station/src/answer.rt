@@ -5,17 +5,8 @@ ghost use Rattle.station.specs.Numbers.{stop_name, start_number, run_number, tal
 use processor::ending::{Ending, Want};
 use text::fault::Fault;
 
-// What came of an attempt to execute the next instruction: where it was not done, nothing has changed.
-#[derive(Clone, Copy)]
-pub enum Trial {
-    Done,
-    Halted,
-    Lacking(Want),
-    Impossible(Ending),
-}
-
 // Why a run stopped: all granted steps were executed, an instruction wants what is not there, or the station has ended.
-#[derive(Clone, Copy)]
+#[derive(Clone, Copy, PartialEq, Eq, Debug)]
 pub enum Stop {
     Spent,
     Wants(Want),
@@ -23,14 +14,14 @@ pub enum Stop {
 }
 
 // How many steps a run executed, and why it stopped.
-#[derive(Clone, Copy)]
+#[derive(Clone, Copy, PartialEq, Eq, Debug)]
 pub struct Answer {
     pub count: u32,
     pub stop: Stop,
 }
 
 // Why a start is refused: the memory's length is not allowed, printed bytes are uncollected, or the disk has no sector.
-#[derive(Clone, Copy)]
+#[derive(Clone, Copy, PartialEq, Eq, Debug)]
 pub enum StartRefusal {
     Length,
     Uncollected,
@@ -38,14 +29,14 @@ pub enum StartRefusal {
 }
 
 // Why a run is refused: the station is not started, or the memory's length is not the one that it was started with.
-#[derive(Clone, Copy)]
+#[derive(Clone, Copy, PartialEq, Eq, Debug)]
 pub enum RunRefusal {
     NotStarted,
     OtherMemory,
 }
 
 // Why a tally is refused: not started, another memory's length, not ended, or the sheet is too long or not in form.
-#[derive(Clone, Copy)]
+#[derive(Clone, Copy, PartialEq, Eq, Debug)]
 pub enum TallyRefusal {
     NotStarted,
     OtherMemory,

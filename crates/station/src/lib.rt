@@ -2,6 +2,7 @@
 #![tactic(auto)]
 
 pub mod answer;
+mod attempt;
 mod device;
 mod look;
 mod queues;

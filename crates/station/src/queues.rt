@@ -12,36 +12,25 @@ impl Station {
     pub fn feed<C: Console>(&self, console: &mut C, bytes: &[u8]) -> usize
         ensures { (memory : List ℕ) (d : Disk) → Feeds (world self.now memory d (C.Console.meaning console.old)) bytes.now result (world self.now memory d (C.Console.meaning console.new)) }
     {
-        let mut went = 0;
-        for byte in bytes {
-            match console.offer(*byte) {
-                Err(_) => {
-                    return went;
-                }
-                Ok(()) => {
-                    went += 1;
-                }
-            }
+        for (went, byte) in bytes.iter().enumerate() {
+            let Ok(()) = console.offer(*byte) else {
+                return went;
+            };
         }
-        went
+        bytes.len()
     }
 
     // Pulls bytes from the console into a buffer until one or the other runs out, and answers how many came.
     pub fn collect<C: Console>(&self, console: &mut C, buffer: &mut [u8]) -> usize
         ensures { (memory : List ℕ) (d : Disk) → Collects C.Console.kind (world self.now memory d (C.Console.meaning console.old)) buffer.old result (world self.now memory d (C.Console.meaning console.new)) buffer.new }
     {
-        let mut came = 0;
-        while came < buffer.len() {
+        let room = buffer.len();
+        for (came, place) in buffer.iter_mut().enumerate() {
             match console.pull() {
-                None => {
-                    return came;
-                }
-                Some(byte) => {
-                    buffer[came] = byte;
-                    came += 1;
-                }
+                Some(byte) => *place = byte,
+                None => return came,
             }
         }
-        came
+        room
     }
 }

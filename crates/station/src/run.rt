@@ -5,13 +5,28 @@ ghost use Rattle.station.specs.Machines.{Goes};
 ghost use Rattle.station.specs.Views.{seen, world, disk_of};
 ghost use Rattle.station.specs.Worlds.{phase_after, Runs};
 
-use crate::answer::{Answer, RunRefusal, Stop, Trial};
+use crate::answer::{Answer, RunRefusal, Stop};
+use crate::attempt::{Executed, Obstacle};
 use crate::device::step;
 use crate::unit::{Phase, Station};
 use console::Console;
 use disk::Writable;
 use processor::ending::Ending;
 use processor::registers::Registers;
+
+// A run stops at what keeps an instruction from being executed.
+impl From<Obstacle> for Stop {
+    ghost use Rattle.station.specs.Machines.{stop_at};
+
+    ghost from_gives = { λ obstacle stop. stop ≡ stop_at obstacle };
+
+    fn from(obstacle: Obstacle) -> Stop {
+        match obstacle {
+            Obstacle::Lacking(want) => Stop::Wants(want),
+            Obstacle::Impossible(ending) => Stop::Ended(ending),
+        }
+    }
+}
 
 // Executes steps until all that were granted are executed, one lacks something, or one ends the station.
 fn go<D: Writable, C: Console>(
@@ -23,34 +38,25 @@ fn go<D: Writable, C: Console>(
 ) -> Answer
     ensures { Goes C.Console.kind (seen D.Readable D.Writable.own C.Console registers.old memory.old disk.old console.old) granted result.count result.stop (seen D.Readable D.Writable.own C.Console registers.new memory.new disk.new console.new) }
 {
-    let mut count = 0;
-    while count < granted {
+    for count in 0..granted {
         match step(registers, memory, disk, console) {
-            Trial::Done => {
-                count += 1;
-            }
-            Trial::Halted => {
+            Ok(Executed::Going) => {}
+            Ok(Executed::Halted) => {
                 return Answer {
                     count: count + 1,
                     stop: Stop::Ended(Ending::Halt),
                 };
             }
-            Trial::Lacking(want) => {
+            Err(obstacle) => {
                 return Answer {
                     count,
-                    stop: Stop::Wants(want),
-                };
-            }
-            Trial::Impossible(ending) => {
-                return Answer {
-                    count,
-                    stop: Stop::Ended(ending),
+                    stop: Stop::from(obstacle),
                 };
             }
         }
     }
     Answer {
-        count,
+        count: granted,
         stop: Stop::Spent,
     }
 }
@@ -60,8 +66,7 @@ fn phase_after(length: usize, stop: Stop) -> Phase
     ensures { result ≡ phase_after length stop }
 {
     match stop {
-        Stop::Spent => Phase::Running { length },
-        Stop::Wants(_) => Phase::Running { length },
+        Stop::Spent | Stop::Wants(_) => Phase::Running { length },
         Stop::Ended(ending) => Phase::Ended { length, ending },
     }
 }

@@ -7,8 +7,18 @@ ghost use Rattle.station.specs.Worlds.{Starts};
 use crate::answer::StartRefusal;
 use crate::unit::{Phase, Station};
 use console::Console;
-use disk::{ReadRefusal, Readable};
+use disk::{NoSuchSector, Readable};
 use processor::registers::Registers;
+
+impl From<NoSuchSector> for StartRefusal {
+    ghost use Rattle.station.specs.declared.answer.StartRefusal.TheVariants.{NoSector};
+
+    ghost from_gives = { λ _ refusal. refusal ≡ NoSector };
+
+    fn from(_missing: NoSuchSector) -> StartRefusal {
+        StartRefusal::NoSector
+    }
+}
 
 impl Station {
     // Loads the first sector to address 0, and begins there with all registers 0.
@@ -27,16 +37,12 @@ impl Station {
         if console.printed() > 0 {
             return Err(StartRefusal::Uncollected);
         }
-        match disk.read_into(0, &mut memory[0..512]) {
-            Err(refusal) => match refusal {
-                ReadRefusal::NoSuchSector => Err(StartRefusal::NoSector),
-                ReadRefusal::NotOneSector => unreachable(),
-            },
-            Ok(()) => {
-                self.registers = Registers::new();
-                self.phase = Phase::Running { length };
-                Ok(())
-            }
-        }
+        let Some(block) = memory.first_chunk_mut() else {
+            unreachable!()
+        };
+        disk.read(0, block)?;
+        self.registers = Registers::new();
+        self.phase = Phase::Running { length };
+        Ok(())
     }
 }

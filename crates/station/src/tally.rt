@@ -8,7 +8,20 @@ use crate::answer::TallyRefusal;
 use crate::unit::{Phase, Station};
 use disk::Readable;
 use sheet::refusal::SheetRefusal;
-use sheet::sheet::give;
+use sheet::remains::Remains;
+
+impl From<SheetRefusal> for TallyRefusal {
+    ghost use Rattle.station.specs.Worlds.{untold};
+
+    ghost from_gives = { λ refusal untallied. untallied ≡ untold refusal };
+
+    fn from(refusal: SheetRefusal) -> TallyRefusal {
+        match refusal {
+            SheetRefusal::TooLong => TallyRefusal::TooLong,
+            SheetRefusal::Form(fault) => TallyRefusal::Form(fault),
+        }
+    }
+}
 
 impl Station {
     // The points that a sheet gives to an ended station.
@@ -27,13 +40,13 @@ impl Station {
                 if memory.len() != length {
                     return Err(TallyRefusal::OtherMemory);
                 }
-                match give(&self.registers, memory, disk, ending, sheet) {
-                    Ok(points) => Ok(points),
-                    Err(refusal) => match refusal {
-                        SheetRefusal::TooLong => Err(TallyRefusal::TooLong),
-                        SheetRefusal::Form(fault) => Err(TallyRefusal::Form(fault)),
-                    },
-                }
+                let remains = Remains {
+                    registers: &self.registers,
+                    memory,
+                    disk,
+                    ending,
+                };
+                Ok(remains.give(sheet)?)
             }
         }
     }

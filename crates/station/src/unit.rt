@@ -5,7 +5,7 @@ use processor::ending::Ending;
 use processor::registers::Registers;
 
 // How far a station is: a started one knows the length of the memory that it was started with.
-#[derive(Clone, Copy)]
+#[derive(Clone, Copy, PartialEq, Eq, Debug)]
 pub enum Phase {
     Unstarted,
     Running { length: usize },

@@ -1,13 +1,8 @@
-use Rattle.std.proofs.Common.{◌-◌, ◌≤◌}
 use Rattle.station.specs.Views.{seen}
 use Rattle.station.specs.Machines.{Steps}
 use Rattle.station.proofs.run.go.Given as goal
 
 abbrev pub invariant-loop-count : goal.invariant-loop-count
 invariant-loop-count g l =
-    (l.count ≤ l.granted)
-    × Steps g.C.Console.kind (seen g.D.Readable g.D.Writable g.C.Console l.initial.registers l.initial.memory l.initial.disk l.initial.console) l.count
+    Steps g.C.Console.kind (seen g.D.Readable g.D.Writable g.C.Console l.initial.registers l.initial.memory l.initial.disk l.initial.console) l.count
     (seen g.D.Readable g.D.Writable g.C.Console l.registers l.memory l.disk l.console)
-
-abbrev pub decreases-loop-count : goal.decreases-loop-count
-decreases-loop-count g l = l.granted - l.count
