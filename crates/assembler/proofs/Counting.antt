@@ -1,11 +1,9 @@
 -- The words of a text, counted and written line by line.
-use Rattle.std.proofs.Common.{◌≡◌, ℕ, suc, ◌+◌, ◌*◌, ◌/◌, ◌%◌, ◌^◌, ◌<◌, true, false, eqb, List, [], ◌∷◌, ◌++◌, length, is_ok, Ok, Err, Result, sym, refl, ap, ◌∙◌, subst, append_assoc, append-nil, arith, length-append}
+use Rattle.std.proofs.Common.{◌≡◌, ℕ, suc, ◌+◌, ◌*◌, ◌/◌, ◌%◌, ◌^◌, ◌<◌, true, false, List, [], ◌∷◌, ◌++◌, length, is_ok, Ok, Err, Result, sym, refl, ap, ◌∙◌, append_assoc, arith, length-append}
 use Rattle.std.specs.Result.{IsOk}
-use Rattle.std.proofs.lemmas.Bool.{cond-false, ne_eqb}
-use Rattle.text.specs.declared.fault.Cause.TheVariants.{End}
 use Rattle.text.specs.declared.fault.FieldFault.{FieldFault}
 use Rattle.text.specs.declared.fault.Fault.{Fault}
-use Rattle.text.specs.Faults.{at_field, at_line, on_line}
+use Rattle.text.specs.Faults.{at_line, on_line}
 use Rattle.text.proofs.Placing.{on_line_ok}
 use Rattle.assembler.specs.declared.writer.Writer.{Writer}
 use Rattle.assembler.specs.Lines.{line_word}
@@ -38,13 +36,6 @@ module _ (n : ℕ) (p : List ℕ) (before after : List (List ℕ)) (some : 0 < l
 
   pub bad_line : (f : FieldFault) → Err f ≡ line_word p → Err (at_line (n + 1) f) ≡ plus n (counted (words_from (n + 1) before))
   bad_line f e = sym (on_this_line (Err f) e)
-
-pub no_end : (n : ℕ) (p : List ℕ) (before : List (List ℕ)) → 0 < length p → before ≡ p ∷ [] → Err (at_line (n + 1) (at_field 0 End)) ≡ plus n (counted (words_from (n + 1) before))
-no_end n p before some cut =
-    sym (ap (λ r. plus n (counted r)) (ap (words_from (n + 1)) cut ∙ cond-false (eqb (length p) 0) (Ok []) (Err (at_line (n + 1) (at_field 0 End))) (ne_eqb (length p) 0 (λ e. omega arith))))
-
-pub the_end : (n : ℕ) (before : List (List ℕ)) → before ≡ [] ∷ [] → Ok n ≡ plus n (counted (words_from (n + 1) before))
-the_end n before cut = ap Ok (omega arith) ∙ sym (ap (λ b. plus n (counted (words_from (n + 1) b))) cut)
 
 pub none_counted : (r : Result ℕ Fault) → plus 0 r ≡ r
 none_counted (Ok m) = ap Ok (omega arith)
@@ -91,17 +82,6 @@ module _ {first after : Writer} {whole : List ℕ} {before : List (List ℕ)} (s
   pub no_line_faulty : (r : Result ℕ FieldFault) → r ≡ line_word p → IsOk r
   no_line_faulty (Ok w) e = refl
   no_line_faulty (Err f) e = absurd (no_fault f e)
-
-module _ {first after : Writer} {whole : List ℕ} {before : List (List ℕ)} (so_far : Written first whole after before) where
-  pub all_written : before ≡ [] ∷ [] → Writes first whole after
-  all_written cut =
-      let none : bytes (words_of (words_from so_far.line before)) ≡ [] = ap (λ b. bytes (words_of (words_from so_far.line b))) cut in
-      subst (λ l. Writes first l after) (sym (append-nil so_far.done) ∙ ap (λ l. so_far.done ++ l) (sym none) ∙ so_far.split) so_far.there
-
-  pub always_ended : (p : List ℕ) → 0 < length p → before ≡ p ∷ [] → ⊥
-  always_ended p h cut =
-      let bad : is_ok (words_from so_far.line before) ≡ false = ap (λ b. is_ok (words_from so_far.line b)) cut ∙ ap is_ok (cond-false (eqb (length p) 0) (Ok []) (Err (at_line so_far.line (at_field 0 End))) (ne_eqb (length p) 0 (λ e. omega arith))) in
-      let y : ◌≡◌ {A = ℕ} 0 1 = cc so_far.sound in omega arith
 
 pub length_bytes : (ws : List ℕ) → length (bytes ws) ≡ 4 * length ws
 length_bytes [] = refl

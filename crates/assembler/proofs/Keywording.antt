@@ -13,10 +13,6 @@ use Rattle.assembler.specs.declared.keyword.Keyword.{Keyword}
 use Rattle.assembler.specs.declared.keyword.Keyword.TheVariants.{Of, Word}
 use Rattle.assembler.specs.Keywords.{spelling, operation_of, keyword_of}
 
-is_false : (b : Bool) → (b ≡ true → ⊥) → b ≡ false
-is_false true h = absurd (h refl)
-is_false false h = refl
-
 -- a test that every keyword passes
 pub record Passes (test : Keyword → Bool) : Type 0 where
   pub word : test Word ≡ true
@@ -69,7 +65,3 @@ no_keyword_at field (Err c) e h = ap Err (keyword_cause field c e)
 
 pub no_keyword : (field : List ℕ) → ((k : Keyword) → field ≡ spelling k → ⊥) → keyword_of field ≡ Err Spelling
 no_keyword field h = no_keyword_at field (keyword_of field) refl h
-
--- a field that is not WORD
-pub past_word : (field : List ℕ) → (field ≡ codes "WORD" → ⊥) → keyword_of field ≡ operation_of (named field)
-past_word field ne = cond-false (bytes_eq field (codes "WORD")) (Ok Word) (operation_of (named field)) (is_false (bytes_eq field (codes "WORD")) (λ t. ne ((bytes_eq-Decides field (codes "WORD")).0 t)))

@@ -1,10 +1,9 @@
 -- A line is read as the word that it spells, by its keyword and the numbers of its operands.
-use Rattle.std.proofs.Common.{◌≡◌, ℕ, zero, suc, ◌+◌, ◌*◌, ◌^◌, ◌<◌, ◌≤◌, Bool, true, false, ◌&&◌, eqb, ltb, ◌⊎◌, List, [], ◌∷◌, length, get_or, drop, Some, None, Ok, Err, Option, Result, sym, refl, ap, ◌∙◌, subst, inl, inr, ⊎_elim, arith}
-use Rattle.std.proofs.lemmas.Bool.{and_parts, and_from, and_left, and_right, cases_Bool, cases_lt, eqb-true, eq-eqb, ne_eqb, lt-ltb, le-ltb, ltb-true, cond-true, cond-false}
+use Rattle.std.proofs.Common.{◌≡◌, ℕ, zero, suc, ◌+◌, ◌*◌, ◌^◌, ◌<◌, Bool, true, false, ◌&&◌, eqb, ltb, List, [], ◌∷◌, length, get_or, drop, Some, None, Ok, Err, Option, Result, sym, refl, ap, ◌∙◌, subst, inl, inr, ⊎_elim, arith}
+use Rattle.std.proofs.lemmas.Bool.{and_parts, cases_Bool, cases_lt, eqb-true, ltb-true, cond-true, cond-false}
 use Rattle.text.specs.declared.fault.Cause.{Cause}
-use Rattle.text.specs.declared.fault.Cause.TheVariants.{Spelling, Missing, Extra}
-use Rattle.text.specs.declared.fault.FieldFault.{FieldFault}
-use Rattle.text.specs.Faults.{at_field, in_field}
+use Rattle.text.specs.declared.fault.Cause.TheVariants.{Spelling}
+use Rattle.text.specs.Faults.{in_field}
 use Rattle.text.specs.Numerals.{number_up_to, spelled}
 use Rattle.text.specs.Pieces.{pieces}
 use Rattle.text.proofs.Spelling.{number_reads, number_read}
@@ -18,22 +17,14 @@ use Rattle.u5.proofs.Tables.{aliased_is}
 use Rattle.assembler.specs.declared.keyword.Keyword.{Keyword}
 use Rattle.assembler.specs.Keywords.{spelling, base, slots, keyword_of}
 use Rattle.assembler.specs.Grammar.{Names, NamesEach}
-use Rattle.assembler.specs.Lines.{numbered, unless_alias, register_of, read_as, OperandRead, and_then, operands, from_keyword, from_fields, line_word}
+use Rattle.assembler.specs.Lines.{numbered, unless_alias, register_of, read_as, and_then, operands, from_keyword, from_fields, line_word}
 use Rattle.assembler.proofs.Keywording.{keyword_spelling, keyword_is}
-use Rattle.assembler.proofs.Slotting.{all_small, small}
+use Rattle.assembler.proofs.Slotting.{all_small, small, slot_at, slot_here}
 
 apart : {X Y : Type 0} (x : X) (y : Y) → Err x ≡ Ok y → ⊥
 apart x y e = let z : ◌≡◌ {A = ℕ} 0 1 = cc in omega arith
 
 -- registers
-
--- a field that is no alias, and begins with r
-pub by_number : (field : List ℕ) → aliased field ≡ None → 0 < length field → get_or field 0 0 ≡ 114 → register_of field ≡ numbered (number_up_to 63 (drop 1 field))
-by_number field none some r = ap (λ o. unless_alias o field) none ∙ cond-true _ _ _ (and_from _ _ (lt-ltb 0 (length field) some) (eq-eqb (get_or field 0 0) 114 r))
-
-pub no_name : (field : List ℕ) → aliased field ≡ None → (length field ≤ 0) ⊎ (get_or field 0 0 ≡ 114 → ⊥) → register_of field ≡ Err Spelling
-no_name field none (inl h) = ap (λ o. unless_alias o field) none ∙ cond-false _ _ _ (and_left _ _ (le-ltb 0 (length field) h))
-no_name field none (inr h) = ap (λ o. unless_alias o field) none ∙ cond-false _ _ _ (and_right _ _ (ne_eqb (get_or field 0 0) 114 h))
 
 abbrev ok_is : Result ℕ Cause → ℕ → Bool
 ok_is (Ok n) m = eqb n m
@@ -96,43 +87,13 @@ names_read Register field n h (l, inr e) = ap register_of e ∙ by_alias n l
 names_read (Number limit) field n h s = ap (number_up_to limit) s.digits ∙ number_reads limit n s.small (omega (arith, s.small))
 
 -- one turn of the loop over a line's operands
-
-module _ (w k : ℕ) (due : List Slot) (fs : List (List ℕ)) where
-  split : (s : Slot) (f : List ℕ) (rest : List (List ℕ)) → drop k due ≡ s ∷ drop (k + 1) due → fs ≡ f ∷ rest → operands (k + 2) w (drop k due) fs ≡ and_then (in_field (read_as s.kind f) (k + 2)) (λ v. operands (suc (k + 2)) (w + v * s.weight) (drop (k + 1) due) rest)
-  split s f rest e g = (λ i. operands (k + 2) w (e i) (g i))
-
-  pub one_more : (s : Slot) (f : List ℕ) (rest : List (List ℕ)) (v : ℕ) → drop k due ≡ s ∷ drop (k + 1) due → fs ≡ f ∷ rest → read_as s.kind f ≡ Ok v → operands (k + 1 + 2) (w + v * s.weight) (drop (k + 1) due) rest ≡ operands (k + 2) w (drop k due) fs
-  one_more s f rest v e g r =
-      let next : k + 1 + 2 ≡ suc (k + 2) = omega arith in
-      ap (λ n. operands n (w + v * s.weight) (drop (k + 1) due) rest) next
-      ∙ sym (split s f rest e g ∙ ap (λ x. and_then (in_field x (k + 2)) (λ v. operands (suc (k + 2)) (w + v * s.weight) (drop (k + 1) due) rest)) r)
-
-  pub wrong_one : (s : Slot) (f : List ℕ) (rest : List (List ℕ)) (cause : Cause) → drop k due ≡ s ∷ drop (k + 1) due → fs ≡ f ∷ rest → read_as s.kind f ≡ Err cause → Err (at_field (k + 2) cause) ≡ operands (k + 2) w (drop k due) fs
-  wrong_one s f rest cause e g r = sym (split s f rest e g ∙ ap (λ x. and_then (in_field x (k + 2)) (λ v. operands (suc (k + 2)) (w + v * s.weight) (drop (k + 1) due) rest)) r)
-
-  pub too_few : (s : Slot) → drop k due ≡ s ∷ drop (k + 1) due → fs ≡ [] → Err (at_field (k + 2) Missing) ≡ operands (k + 2) w (drop k due) fs
-  too_few s e g = sym (λ i. operands (k + 2) w (e i) (g i))
-
-  pub too_many : drop k due ≡ [] → 0 < length fs → Err (at_field (k + 2) Extra) ≡ operands (k + 2) w (drop k due) fs
-  too_many e some = sym (ap (λ ss. operands (k + 2) w ss fs) e ∙ extra fs some)
-    where
-      extra : (fs : List (List ℕ)) → 0 < length fs → operands (k + 2) w [] fs ≡ Err (at_field (k + 2) Extra)
-      extra [] h = absurd (omega arith)
-      extra (f ∷ fs) h = refl
-
-  pub just_all : drop k due ≡ [] → fs ≡ [] → Ok w ≡ operands (k + 2) w (drop k due) fs
-  just_all e g = sym (λ i. operands (k + 2) w (e i) (g i))
-
-  -- an operand that was not read
-  pub stopped : (s : Slot) (after : List (List ℕ)) (fault : FieldFault) → drop k due ≡ s ∷ drop (k + 1) due → OperandRead fs s.kind (k + 2) (Err fault) after → Err fault ≡ operands (k + 2) w (drop k due) fs
-  stopped s after fault e (inl (none, is)) = ap Err is ∙ too_few s e none
-  stopped s after fault e (inr (f, cut, (cause, read, is))) = ap Err is ∙ wrong_one s f after cause e cut read
-
-pub started : (fs rest : List (List ℕ)) (f : List ℕ) (k : Keyword) (w : ℕ) → fs ≡ f ∷ rest → keyword_of f ≡ Ok k → w ≡ base k → operands 2 w (slots k) rest ≡ from_fields fs
-started fs rest f k w e g h = ap (λ n. operands 2 n (slots k) rest) h ∙ ap (λ x. from_keyword (in_field x 1) rest) (sym g) ∙ sym (ap from_fields e)
-
-pub not_started : (fs rest : List (List ℕ)) (f : List ℕ) (c : Cause) → fs ≡ f ∷ rest → keyword_of f ≡ Err c → Err (at_field 1 c) ≡ from_fields fs
-not_started fs rest f c e g = sym (ap from_fields e ∙ ap (λ x. from_keyword (in_field x 1) rest) g)
+pub one_more : (w k : ℕ) (due : List Slot) (fs : List (List ℕ)) → k < length due → (f : List ℕ) (rest : List (List ℕ)) (v : ℕ) → fs ≡ f ∷ rest → read_as (slot_at due k).kind f ≡ Ok v → operands (k + 1 + 2) (w + v * (slot_at due k).weight) (drop (k + 1) due) rest ≡ operands (k + 2) w (drop k due) fs
+one_more w k due fs h f rest v cut read =
+    let next : k + 1 + 2 ≡ suc (k + 2) = omega arith in
+    let s = slot_at due k in
+    ap (λ n. operands n (w + v * s.weight) (drop (k + 1) due) rest) next
+    ∙ ap (λ x. and_then (in_field x (k + 2)) (λ v. operands (suc (k + 2)) (w + v * s.weight) (drop (k + 1) due) rest)) (sym read)
+    ∙ (λ i. operands (k + 2) w (sym (slot_here due k h) i) (sym cut i))
 
 -- the operands of a line
 

@@ -1,6 +1,8 @@
 -- The places of a keyword's operands, one after another, and the room that they take in a word.
-use Rattle.std.proofs.Common.{◌≡◌, ℕ, ◌+◌, ◌*◌, ◌^◌, ◌<◌, ◌≤◌, Bool, true, ◌&&◌, ltb, leb, List, [], ◌∷◌, length, refl, mul-le-mul_right, arith}
-use Rattle.std.proofs.lemmas.Bool.{and_parts, ltb-true, leb-true}
+use Rattle.std.proofs.Common.{◌≡◌, ℕ, ◌+◌, ◌*◌, ◌^◌, ◌<◌, ◌≤◌, Bool, true, ◌&&◌, ltb, leb, List, [], ◌∷◌, length, drop, get_or, ap, refl, mul-le-mul_right, arith}
+use Rattle.std.proofs.lemmas.Bool.{and_parts, leb-true}
+use Rattle.std.proofs.lemmas.List.{drop_more}
+use Rattle.u5.specs.declared.operation.Kind.TheVariants.{Register}
 use Rattle.u5.specs.declared.operation.Slot.{Slot}
 use Rattle.u5.specs.Operations.{largest, every}
 use Rattle.u5.proofs.Tables.{each_operation}
@@ -26,15 +28,19 @@ all_fitting : Passes fitting
 unfolding every
 all_fitting = record { word = refl; operations = each_operation (λ o. fitting (Of o)) refl refl }
 
-pub fits : (k : Keyword) → base k + room (slots k) < 2 ^ 32
-fits k = ltb-true (base k + room (slots k)) (2 ^ 32) (and_parts _ _ (each_keyword fitting all_fitting k)).0
-
 pub small : (k : Keyword) → all_small (slots k) ≡ true
 small k = (and_parts (all_small (slots k)) (leb (length (slots k)) 3) (and_parts (ltb (base k + room (slots k)) (2 ^ 32)) _ (each_keyword fitting all_fitting k)).1).0
 
 pub few : (k : Keyword) → length (slots k) ≤ 3
 few k = leb-true (length (slots k)) 3 (and_parts (all_small (slots k)) (leb (length (slots k)) 3) (and_parts (ltb (base k + room (slots k)) (2 ^ 32)) _ (each_keyword fitting all_fitting k)).1).1
 
+-- the place of an operand, and those after it
+abbrev pub slot_at : List Slot → ℕ → Slot
+slot_at due k = get_or due k (record { kind = Register; weight = 0 })
+
+pub slot_here : (due : List Slot) (k : ℕ) → k < length due → drop k due ≡ slot_at due k ∷ drop (k + 1) due
+slot_here due k h = drop_more due k (record { kind = Register; weight = 0 }) h
+
 -- one operand more
-pub room_more : (w v : ℕ) (s : Slot) (ss : List Slot) → w + room (s ∷ ss) < 2 ^ 32 → v ≤ largest s.kind → (w + v * s.weight) + room ss < 2 ^ 32
-room_more w v s ss h le = omega (arith, mul-le-mul_right s.weight le)
+pub room_more : (w v : ℕ) (due : List Slot) (k : ℕ) → k < length due → w + room (drop k due) < 2 ^ 32 → v ≤ largest (slot_at due k).kind → (w + v * (slot_at due k).weight) + room (drop (k + 1) due) < 2 ^ 32
+room_more w v due k h fits le = omega (arith, ap room (slot_here due k h), mul-le-mul_right (slot_at due k).weight le)

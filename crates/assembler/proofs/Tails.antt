@@ -20,17 +20,23 @@ use Rattle.assembler.specs.declared.writer.Writer.{Writer}
 use Rattle.assembler.specs.Writes.{Writes, HasRoom}
 use Rattle.assembler.proofs.Writing.{writes_then, room_left}
 use Rattle.assembler.proofs.Keywording.{Passes, each_keyword}
-use Rattle.assembler.proofs.Slotting.{all_small, small}
+use Rattle.assembler.proofs.Slotting.{all_small, small, slot_at, slot_here}
 
 -- one operand more, after a tab
-module _ {first before : Writer} {p : List ℕ} (due : List Slot) (k word : ℕ) (s : Slot) (rest : List Slot) (here : drop k due ≡ s ∷ rest) (so_far : Writes first p before) (split : p ++ tail (drop k due) word ≡ tail due word) where
-  pub operand_room : HasRoom first (length (tail due word)) → HasRoom before (1 + length (operand_text s.kind (part s word)))
-  operand_room h = omega (arith, room_left (tail (drop k due) word) (tail due word) so_far split h, ap (λ ss. length (tail ss word)) here, length-append (operand_text s.kind (part s word)) (tail rest word))
+abbrev pub operand_at : List Slot → ℕ → ℕ → List ℕ
+operand_at due k word = 9 ∷ operand_text (slot_at due k).kind (part (slot_at due k) word)
 
-  pub operand_more : {after : Writer} → Writes before (9 ∷ operand_text s.kind (part s word)) after → (q : List ℕ) × Writes first q after × (q ++ tail rest word ≡ tail due word)
+tail_here : (due : List Slot) (k word : ℕ) → k < length due → tail (drop k due) word ≡ operand_at due k word ++ tail (drop (k + 1) due) word
+tail_here due k word h = ap (λ ss. tail ss word) (slot_here due k h)
+
+module _ {first before : Writer} {p : List ℕ} (due : List Slot) (k word : ℕ) (h : k < length due) (so_far : Writes first p before) (split : p ++ tail (drop k due) word ≡ tail due word) where
+  pub operand_room : HasRoom first (length (tail due word)) → HasRoom before (length (operand_at due k word))
+  operand_room room = omega (arith, room_left (tail (drop k due) word) (tail due word) so_far split room, ap length (tail_here due k word h), length-append (operand_at due k word) (tail (drop (k + 1) due) word))
+
+  pub operand_more : {after : Writer} → Writes before (operand_at due k word) after → (q : List ℕ) × Writes first q after × (q ++ tail (drop (k + 1) due) word ≡ tail due word)
   operand_more put =
-      let t = 9 ∷ operand_text s.kind (part s word) in
-      (p ++ t, writes_then so_far put, append_assoc p t (tail rest word) ∙ ap (λ ss. p ++ tail ss word) (sym here) ∙ split)
+      let t = operand_at due k word in
+      (p ++ t, writes_then so_far put, append_assoc p t (tail (drop (k + 1) due) word) ∙ ap (λ l. p ++ l) (sym (tail_here due k word h)) ∙ split)
 
 -- widths
 

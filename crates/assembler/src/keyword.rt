@@ -12,7 +12,7 @@ const WHOLE: Slot = Slot {
 };
 
 // An operation, or WORD, which gives a word as a number.
-#[derive(Clone, Copy)]
+#[derive(Clone, Copy, PartialEq, Eq, Debug)]
 pub enum Keyword {
     Of(Operation),
     Word,

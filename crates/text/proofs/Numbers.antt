@@ -1,17 +1,12 @@
 -- One turn of a loop over digits, and what the tests say of a field.
-use Rattle.std.proofs.Common.{◌≡◌, ℕ, ◌+◌, ◌-◌, ◌*◌, ◌<◌, ◌≤◌, true, false, ◌&&◌, ltb, ◌⊎◌, List, [], ◌∷◌, length, get_or, drop, Ok, Err, inl, inr, refl, arith}
+use Rattle.std.proofs.Common.{◌≡◌, ℕ, ◌+◌, ◌-◌, ◌*◌, ◌<◌, ◌≤◌, true, ◌⊎◌, List, [], ◌∷◌, length, get_or, drop, Ok, Err, inl, inr, refl, arith}
 use Rattle.std.specs.Str.{all_ascii_digits}
 use Rattle.std.specs.Char.{is_ascii_digit}
 use Rattle.std.specs.List.{list_all}
 use Rattle.std.proofs.lemmas.List.{at_drop_more}
-use Rattle.std.proofs.lemmas.Bool.{and_parts, and_right}
 use Rattle.std.proofs.lemmas.Bool.Decides.{nat_tests}
 use Rattle.text.specs.declared.fault.Cause.TheVariants.{Size}
 use Rattle.text.specs.Numerals.{read_on, value, numeral, number_up_to}
-
--- the digits from a place on: the first, and the others
-pub split_digits : (xs : List ℕ) (i : ℕ) → i < length xs → all_ascii_digits (drop i xs) ≡ (is_ascii_digit (get_or xs i 0) && all_ascii_digits (drop (i + 1) xs))
-split_digits xs i h = at_drop_more all_ascii_digits xs i 0 h
 
 pub split_value : (n : ℕ) (xs : List ℕ) (i : ℕ) → i < length xs → read_on n (drop i xs) ≡ read_on (n * 10 + (get_or xs i 0 - 48)) (drop (i + 1) xs)
 split_value n xs i h = at_drop_more (read_on n) xs i 0 h
@@ -19,15 +14,6 @@ split_value n xs i h = at_drop_more (read_on n) xs i 0 h
 pub read_on_ge : (n : ℕ) (cs : List ℕ) → n ≤ read_on n cs
 read_on_ge n [] = omega arith
 read_on_ge n (c ∷ cs) = omega (arith, read_on_ge (n * 10 + (c - 48)) cs)
-
-pub digit_least : (c : ℕ) → is_ascii_digit c ≡ true → 48 ≤ c
-digit_least c h = grind (arith, nat_tests)
-
-pub numeral_digits : (xs : List ℕ) → numeral xs ≡ true → all_ascii_digits xs ≡ true
-numeral_digits xs h = (and_parts _ _ (and_parts (ltb 0 (length xs)) _ h).1).1
-
-pub not_numeral : (xs : List ℕ) → all_ascii_digits xs ≡ false → numeral xs ≡ false
-not_numeral xs h = and_right (ltb 0 (length xs)) _ (and_right _ _ h)
 
 pub too_big : (limit : ℕ) (xs : List ℕ) → numeral xs ≡ true → limit < value xs → Err Size ≡ number_up_to limit xs
 too_big limit xs h g = grind (arith, nat_tests)
