@@ -1,6 +1,8 @@
 // Why a processor goes no further: it has ended, or it wants what is not there.
-ghost use Rattle.std.specs.Prelude.{◌≡◌, MatchBool, MatchOption, ◌≢◌};
+ghost use Rattle.std.specs.Prelude.{◌≡◌, Some, MatchOption, ◌≢◌};
 ghost use Rattle.processor.specs.Names.{ending_name, ending_named, want_name};
+
+use std::fmt;
 
 // What ends a processor, until the next accepted start.
 #[derive(Clone, Copy, PartialEq, Eq, Debug)]
@@ -49,13 +51,6 @@ const ENDINGS: [Ending; 7] = [
 ];
 
 impl Ending {
-    // An ending is known by its name.
-    pub fn same(self, other: Ending) -> bool
-        ensures { MatchBool result (self ≡ other) (self ≢ other) }
-    {
-        self == other
-    }
-
     // The ending with this name.
     pub fn named(field: &[u8]) -> Option<Ending>
         ensures reads { result ≡ ending_named field.now }
@@ -77,5 +72,21 @@ impl Want {
             Want::Paper => "PAPER",
             Want::Keep => "KEEP",
         }
+    }
+}
+
+impl fmt::Display for Ending {
+    ghost output = { λ e. Some (ending_name e) };
+
+    fn fmt<W: fmt::Write>(&self, f: &mut fmt::Formatter<W>) -> fmt::Result {
+        f.write_str(self.name())
+    }
+}
+
+impl fmt::Display for Want {
+    ghost output = { λ w. Some (want_name w) };
+
+    fn fmt<W: fmt::Write>(&self, out: &mut fmt::Formatter<W>) -> fmt::Result {
+        out.write_str(self.name())
     }
 }

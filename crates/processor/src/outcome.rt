@@ -2,7 +2,7 @@
 use u5::operand::Register;
 
 // The step is done, or it asks something of a device and has changed nothing yet.
-#[derive(Clone, Copy)]
+#[derive(Clone, Copy, PartialEq, Eq, Debug)]
 pub enum Outcome {
     Done,
     Halted,
