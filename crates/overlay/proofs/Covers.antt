@@ -3,10 +3,13 @@ use Rattle.std.proofs.Common.{◌≡◌, ℕ, ◌-◌, ◌<◌, true, false, eqb
 use Rattle.std.proofs.lemmas.List.{same_lists, get_or_default, length-set, get_or-set_same, get_or-set_other}
 use Rattle.std.proofs.lemmas.Bool.{eq-eqb, ne_eqb, cond-true, cond-false, cases_eq, cases_Bool}
 use Rattle.disk.specs.declared.NoSuchSector.{NoSuchSector}
+use Rattle.disk.specs.declared.WriteRefusal.{WriteRefusal}
 use Rattle.disk.specs.declared.WriteRefusal.TheVariants as refusal
+use Rattle.std.specs.Result.{MatchResult}
 use Rattle.disk.specs.Disks.{Written, Reads, Writes}
 use Rattle.overlay.specs.declared.entry.Entry.{Entry}
-use Rattle.overlay.specs.Entries.{holds, looked_up, upsert, Gets, Keeps}
+use Rattle.overlay.specs.declared.kept.Full.{Full}
+use Rattle.overlay.specs.Entries.{holds, looked_up, upsert, Has, Lacks, Keeps}
 use Rattle.overlay.specs.Layers.{laid, overlaid, starting}
 use Rattle.overlay.specs.WholeLayers.{laid_length, laid_at}
 use Rattle.overlay.proofs.Lookups.{looked_up_upsert, length_upsert}
@@ -25,16 +28,13 @@ unfolding looked_up
 overlaid_none below = ap (λ ss. record { sectors = ss; kept = λ _. false; keeps = 32 }) (laid_none below)
 
 -- A sector with an entry is read from it.
-pub read_kept : (es : List Entry) (below : List (List ℕ)) (s : ℕ) (before after : List ℕ) → s < length (laid es below) → Gets es s before true after → Reads (laid es below) s before (Ok tt) after
-read_kept es below s before after within (held, read) =
-    (within, read (get_or below s []) ∙ sym (laid_at es below s [] (omega (arith, laid_length es below))))
+pub read_kept : (es : List Entry) (below : List (List ℕ)) (s : ℕ) (before bytes : List ℕ) → s < length below → Has es s bytes → Reads (laid es below) s before (Ok tt) bytes
+read_kept es below s before bytes within (_, read) = (simp laid_length within, read (get_or below s []) ∙ sym (laid_at es below s [] within))
 
 -- A sector with no entry is read below.
-pub read_below : (es : List Entry) (below : List (List ℕ)) (s : ℕ) (before left : List ℕ) (r : Result (Unit {0}) NoSuchSector) (after : List ℕ) → Gets es s before false left → Reads below s left r after → Reads (laid es below) s before r after
-read_below es below s before left (Ok _) after (none, clear, same) (lt, read) =
-    (omega (arith, laid_length es below), read ∙ clear (get_or below s []) ∙ sym (laid_at es below s [] lt))
-read_below es below s before left (Err _) after (none, clear, same) (past, untouched) =
-    (omega (arith, laid_length es below), untouched ∙ same)
+pub read_below : (es : List Entry) (below : List (List ℕ)) (s : ℕ) (before : List ℕ) (r : Result (Unit {0}) NoSuchSector) (after : List ℕ) → Lacks es s → Reads below s before r after → Reads (laid es below) s before r after
+read_below es below s before (Ok _) after (_, clear) (lt, read) = (simp laid_length lt, read ∙ clear (get_or below s []) ∙ sym (laid_at es below s [] lt))
+read_below es below s before (Err _) after (_, clear) (past, same) = (simp laid_length past, same)
 
 module _ (es : List Entry) (below : List (List ℕ)) (s : ℕ) (block : List ℕ) where
   laid_upsert : s < length below → laid (upsert es s block) below ≡ set (laid es below) s block
@@ -72,12 +72,11 @@ module _ (es : List Entry) (below : List (List ℕ)) (s : ℕ) (block : List ℕ
         (cases_Bool (holds es s));
   }
 
-  -- What the table kept is written.
-  pub kept_written : (after : List Entry) → s < length (laid es below) → Keeps es s block true after → Writes (overlaid es below) s block (Ok tt) (overlaid after below)
-  kept_written after within (room, upserted) =
-      (within, subst (λ fs. Written (overlaid es below) s block (overlaid fs below)) (sym upserted) (upsert_written (omega (arith, laid_length es below)) room))
-
-  -- A full table keeps no sector that it has no entry for.
-  pub kept_refused : (after : List Entry) → s < length (laid es below) → Keeps es s block false after → Writes (overlaid es below) s block (Err refusal.NoKeep) (overlaid after below)
-  kept_refused after within (none, full, same) =
-      (within, record { not_kept = none; none_left = omega arith }, ap (λ fs. overlaid fs below) same)
+  -- What the table answers is what the disk answers.
+  pub put_written : (r : Result (Unit {0}) Full) (r' : Result (Unit {0}) WriteRefusal) (after : List Entry) → s < length below → MatchResult r (λ _. r' ≡ Ok tt) (λ _. r' ≡ Err refusal.NoKeep) → Keeps es s block r after → Writes (overlaid es below) s block r' (overlaid after below)
+  put_written (Ok _) r' after within is (room, upserted) =
+      subst (λ a. Writes (overlaid es below) s block a (overlaid after below)) (sym is)
+      (simp laid_length within, subst (λ fs. Written (overlaid es below) s block (overlaid fs below)) (sym upserted) (upsert_written within room))
+  put_written (Err _) r' after within is (none, full, same) =
+      subst (λ a. Writes (overlaid es below) s block a (overlaid after below)) (sym is)
+      (simp laid_length within, record { not_kept = none; none_left = omega arith }, ap (λ fs. overlaid fs below) same)

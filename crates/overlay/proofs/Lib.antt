@@ -1,4 +1,4 @@
 -- Lemmas on tables and on what lies under them.
-pub mod Places
+pub mod Rules
 pub mod Lookups
 pub mod Covers

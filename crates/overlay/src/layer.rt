@@ -1,7 +1,7 @@
 // The overlay, and what it means as a disk.
 ghost use Rattle.std.specs.Prelude.{◌≡◌, ◌-◌, length};
 ghost use Rattle.disk.specs.Disks.{Writes};
-ghost use Rattle.overlay.specs.Entries.{held, holds};
+ghost use Rattle.overlay.specs.Entries.{holds};
 ghost use Rattle.overlay.specs.Layers.{laid, overlaid, starting};
 ghost use Rattle.overlay.specs.WholeLayers.{laid_whole};
 
@@ -18,7 +18,7 @@ pub struct Overlay<D: Readable> {
 impl<D: Readable> Overlay<D> {
     // Starts with the sectors below, none kept, and 32 keeps.
     pub fn new(below: D) -> Overlay<D>
-        ensures starts { overlaid (held result.table.len result.table.entries) (D.Readable.sectors result.below) ≡ starting (D.Readable.sectors below) }
+        ensures starts { overlaid result.table.entries.items (D.Readable.sectors result.below) ≡ starting (D.Readable.sectors below) }
         ensures below { result.below ≡ below }
     {
         Overlay {
@@ -29,9 +29,9 @@ impl<D: Readable> Overlay<D> {
 }
 
 impl<D: Readable> Readable for Overlay<D> {
-    ghost sectors = { λ o. laid (held o.table.len o.table.entries) (D.Readable.sectors o.below) };
+    ghost sectors = { λ o. laid o.table.entries.items (D.Readable.sectors o.below) };
 
-    ghost whole = { λ o. laid_whole o.table.len o.table.entries (D.Readable.sectors o.below) o.table.sized (D.Readable.whole o.below) };
+    ghost whole = { λ o. laid_whole o.table.entries.items (D.Readable.sectors o.below) o.table.sized (D.Readable.whole o.below) };
 
     fn count(&self) -> u32 {
         self.below.count()
@@ -41,29 +41,30 @@ impl<D: Readable> Readable for Overlay<D> {
         if sector >= self.count() {
             return Err(NoSuchSector);
         }
-        if self.table.get(sector, block) {
-            return Ok(());
+        match self.table.get(sector) {
+            Some(bytes) => {
+                *block = *bytes;
+                Ok(())
+            }
+            None => self.below.read(sector, block),
         }
-        self.below.read(sector, block)
     }
 }
 
 impl<D: Readable> Writable for Overlay<D> {
-    ghost kept = { λ o. holds (held o.table.len o.table.entries) };
+    ghost kept = { λ o. holds o.table.entries.items };
 
-    ghost keeps = { λ o. 32 - length (held o.table.len o.table.entries) };
+    ghost keeps = { λ o. 32 - length o.table.entries.items };
 
     fn write(&mut self, sector: u32, block: [u8; 512]) -> Result<(), WriteRefusal>
-        ensures writes { Writes (overlaid (held self.old.table.len self.old.table.entries) (D.Readable.sectors self.old.below)) sector block result (overlaid (held self.new.table.len self.new.table.entries) (D.Readable.sectors self.new.below)) }
+        ensures writes { Writes (overlaid self.old.table.entries.items (D.Readable.sectors self.old.below)) sector block result (overlaid self.new.table.entries.items (D.Readable.sectors self.new.below)) }
         ensures below { self.new.below ≡ self.old.below }
     {
         if sector >= self.count() {
             return Err(WriteRefusal::NoSuchSector);
         }
-        if self.table.put(sector, block) {
-            Ok(())
-        } else {
-            Err(WriteRefusal::NoKeep)
-        }
+        self.table
+            .put(sector, block)
+            .map_err(|_| WriteRefusal::NoKeep)
     }
 }

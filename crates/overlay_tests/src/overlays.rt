@@ -1,5 +1,5 @@
 // Tests of the overlay, over each kind of disk.
-use disk::{Image, ReadOnlyImage, Readable, Writable};
+use disk::{Image, ReadOnlyImage, Readable, Writable, WriteRefusal};
 use disk_tests::{copy_sector, edges, fill, finds_no_keep, write_and_read};
 use overlay::Overlay;
 
@@ -25,6 +25,19 @@ fn an_overlay_lies_over_an_overlay(rt: HostRuntime) {
     assert_eq!(rt; edges(&upper, 0), Some(0));
     assert_eq!(rt; edges(&upper, 1), Some(3));
     assert_eq!(rt; edges(&upper, 2), Some(100));
+}
+
+#[test]
+fn an_overlay_lies_over_an_overlay_of_an_image(rt: HostRuntime) {
+    let mut bytes = [7; 1024];
+    let mut upper = Overlay::new(Overlay::new(Image::new(&mut bytes)));
+    assert_eq!(rt; upper.count(), 2);
+    assert_eq!(rt; upper.write(1, [3; 512]), Ok(()));
+    assert_eq!(rt; upper.write(2, [3; 512]), Err(WriteRefusal::NoSuchSector));
+    assert_eq!(rt; edges(&upper, 0), Some(7));
+    assert_eq!(rt; edges(&upper, 1), Some(3));
+    assert_eq!(rt; edges(&upper, 2), None);
+    assert!(rt; bytes[511] == 7 && bytes[512] == 7);
 }
 
 #[test]

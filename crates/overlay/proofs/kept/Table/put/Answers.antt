@@ -1,38 +1,21 @@
--- A rewrite and an added entry are what `upsert` does.
-use Rattle.std.proofs.Common.{true, false, refl, ap, ◌∙◌, arith, rules}
-use Rattle.std.proofs.lemmas.List.{length-take-le}
-use Rattle.std.proofs.lemmas.Bool.{both_ways}
-use Rattle.overlay.specs.Entries.{held}
-use Rattle.overlay.proofs.Places.{none_before}
-use Rattle.overlay.proofs.Lookups.{found_at, not_found, upsert_found, upsert_added}
+-- A rewrite and an added entry are what `upsert` does, and keep the table's rules.
+use Rattle.std.proofs.Common.{refl, rules}
+use Rattle.overlay.proofs.Rules.{added_apart, added_sized}
+use Rattle.overlay.proofs.Lookups.{keeps_found, keeps_added, keeps_full}
 use Rattle.overlay.proofs.kept.Table.put.Goals as goal
 
 pub returns-in-Some : goal.returns-in-Some
-returns-in-Some c =
-    let t = c.args.self.now in
-    let i = c.in-Some.i in
-    let s = c.args.sector in
-    let f = c.in-Some.ensures in
-    let first = none_before _ t.len i s t.apart f.0 f.1 in (
-      λ none. absurd (both_ways _ none (found_at (λ _. true) t.entries t.len i s false f.0 (search rules) f.1 first)),
-      ap (λ n. held n c.rewrite.new.self.entries) c.rewrite.ensures.len
-          ∙ ap (held t.len) c.rewrite.ensures.entries
-          ∙ upsert_found t.entries t.len i s c.args.block f.0 (search rules) f.1 first,
-    )
+returns-in-Some c = keeps_found _ _ c.args.sector c.args.block c.in-Some.i c.in-Some.ensures c.rewrite.ensures
 
-pub returns-then-self-lt-KEEPS : goal.returns-then-self-lt-KEEPS
-returns-then-self-lt-KEEPS c =
-    let t = c.args.self.now in (
-      λ _. omega (arith, length-take-le t.len t.entries (search rules)),
-      ap (λ n. held n c.add.new.self.entries) c.add.ensures.len
-          ∙ ap (held _) c.add.ensures.entries
-          ∙ upsert_added t.entries t.len c.args.sector c.args.block (search rules) c.in-None.ensures,
-    )
+pub returns-then-is_full : goal.returns-then-is_full
+returns-then-is_full c = keeps_full _ _ c.args.sector c.args.block _ c.in_default.ensures (search rules) refl
 
-pub returns-else-self-lt-KEEPS : goal.returns-else-self-lt-KEEPS
-returns-else-self-lt-KEEPS c =
-    let t = c.args.self.now in (
-      not_found (λ _. true) t.entries t.len c.args.sector false c.in-None.ensures,
-      omega (arith, length-take-le t.len t.entries (search rules)),
-      refl,
-    )
+pub invariant_of-self : goal.invariant_of-self
+invariant_of-self c =
+    let t = c.args.self.now in record {
+      apart = added_apart t.entries.items _ c.args.sector c.args.block c.push.ensures.items c.in_default.ensures t.apart;
+      sized = added_sized t.entries.items _ c.args.sector c.args.block c.push.ensures.items (search rules) t.sized;
+    }
+
+pub returns : goal.returns
+returns c = keeps_added _ _ c.args.sector c.args.block c.in_default.ensures (search rules) c.push.ensures.items

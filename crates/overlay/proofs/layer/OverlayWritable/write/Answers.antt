@@ -1,19 +1,9 @@
 -- What the table answers is what the disk answers.
-use Rattle.std.proofs.Common.{refl, arith}
-use Rattle.overlay.proofs.Covers.{kept_written, kept_refused}
+use Rattle.std.proofs.Common.{arith, rules}
+use Rattle.overlay.specs.WholeLayers.{laid_length}
+use Rattle.overlay.proofs.Covers.{put_written}
 use Rattle.overlay.proofs.layer.OverlayWritable.write.Goals as goal
 
-pub returns-then-sector-count : goal.returns-then-sector-count
-returns-then-sector-count g c = record { writes = (omega (arith, c.count.ensures), refl); below = refl }
-
-pub returns-then-put : goal.returns-then-put
-returns-then-put g c = record {
-  writes = kept_written _ _ c.args.sector c.args.block _ (omega (arith, c.count.ensures)) c.if-put.ensures;
-  below = refl;
-}
-
-pub returns-else-put : goal.returns-else-put
-returns-else-put g c = record {
-  writes = kept_refused _ _ c.args.sector c.args.block _ (omega (arith, c.count.ensures)) c.if-put.ensures;
-  below = refl;
-}
+pub returns-clause-writes : goal.returns-clause-writes
+returns-clause-writes g c =
+    put_written c.args.self.now.table.entries.items (g.D.Readable.sectors c.args.self.now.below) c.args.sector c.args.block c.put.result c.map_err.result _ (omega (arith, c.count.ensures, laid_length)) (search rules) c.put.ensures
