@@ -62,61 +62,57 @@ fn repeated(heap: Global, line: &[u8], count: usize) -> anyhow::Result<Vec<u8>> 
     Ok(text)
 }
 
-// A station at work on its memory, a disk and a console, and what its calls answered so far, as text.
+// A station with its memory, and what its calls answered so far, as text.
 #[derive(Drop)]
-pub struct Bench<'a, D, C> {
+pub struct Bench {
     heap: Global,
     station: Station,
     memory: Vec<u8>,
-    disk: &'a mut D,
-    console: &'a mut C,
     said: String,
 }
 
-impl<'a, D: Writable, C: Console> Bench<'a, D, C> {
-    pub fn new(
-        heap: Global,
-        length: usize,
-        disk: &'a mut D,
-        console: &'a mut C,
-    ) -> anyhow::Result<Bench<'a, D, C>> {
+impl Bench {
+    pub fn new(heap: Global, length: usize) -> anyhow::Result<Bench> {
         Ok(Bench {
             heap,
             station: Station::new(),
             memory: vec![in heap; 0u8; length]?,
-            disk,
-            console,
             said: String::new(heap),
         })
     }
 
-    fn start(&mut self) -> anyhow::Result<()> {
+    fn start<D: Writable, C: Console>(&mut self, disk: &D, console: &C) -> anyhow::Result<()> {
         let memory = self.memory.as_mut_slice();
-        match self.station.start(memory, self.disk, self.console) {
+        match self.station.start(memory, disk, console) {
             Ok(()) => self.said.push_str("started")?,
             Err(refusal) => write!(self.said, "refused {}", refusal.number())?,
         }
         Ok(())
     }
 
-    fn run(&mut self, steps: u32) -> anyhow::Result<()> {
+    fn run<D: Writable, C: Console>(
+        &mut self,
+        disk: &mut D,
+        console: &mut C,
+        steps: u32,
+    ) -> anyhow::Result<()> {
         let memory = self.memory.as_mut_slice();
-        match self.station.run(memory, self.disk, self.console, steps) {
+        match self.station.run(memory, disk, console, steps) {
             Ok(answer) => write!(self.said, "{} {}", answer.count, answer.stop.name())?,
             Err(refusal) => write!(self.said, "refused {}", refusal.number())?,
         }
         Ok(())
     }
 
-    fn feed(&mut self, bytes: &[u8]) -> anyhow::Result<()> {
-        let went = self.station.feed(self.console, bytes);
+    fn feed<C: Console>(&mut self, console: &mut C, bytes: &[u8]) -> anyhow::Result<()> {
+        let went = self.station.feed(console, bytes);
         write!(self.said, "fed {went}")?;
         Ok(())
     }
 
-    fn collect(&mut self, length: usize) -> anyhow::Result<()> {
+    fn collect<C: Console>(&mut self, console: &mut C, length: usize) -> anyhow::Result<()> {
         let mut buffer = vec![in self.heap; 0u8; length]?;
-        let came = self.station.collect(self.console, buffer.as_mut_slice());
+        let came = self.station.collect(console, buffer.as_mut_slice());
         write!(self.said, "{came}:")?;
         for byte in buffer.iter().take(came) {
             self.said.push(char::from(*byte))?;
@@ -125,9 +121,9 @@ impl<'a, D: Writable, C: Console> Bench<'a, D, C> {
     }
 
     // A form refusal carries its line, its field and its cause.
-    fn tally(&mut self, sheet: &[u8]) -> anyhow::Result<()> {
+    fn tally<D: Writable>(&mut self, disk: &D, sheet: &[u8]) -> anyhow::Result<()> {
         let memory = self.memory.as_slice();
-        match self.station.tally(memory, self.disk, sheet) {
+        match self.station.tally(memory, disk, sheet) {
             Ok(points) => write!(self.said, "{points} points")?,
             Err(refusal) => {
                 write!(self.said, "refused {}", refusal.number())?;
@@ -146,48 +142,58 @@ impl<'a, D: Writable, C: Console> Bench<'a, D, C> {
     }
 
     // Makes a call, and adds to the text what it answers.
-    fn make(&mut self, call: Call) -> anyhow::Result<()> {
+    fn make<D: Writable, C: Console>(
+        &mut self,
+        disk: &mut D,
+        console: &mut C,
+        call: Call,
+    ) -> anyhow::Result<()> {
         match call {
-            Call::Start => self.start(),
+            Call::Start => self.start(disk, console),
             Call::StartIn(length) => {
                 let own = self.swap_memory(length)?;
-                let made = self.start();
+                let made = self.start(disk, console);
                 self.memory = own;
                 made
             }
-            Call::Run(steps) => self.run(steps),
+            Call::Run(steps) => self.run(disk, console, steps),
             Call::RunIn(length) => {
                 let own = self.swap_memory(length)?;
-                let made = self.run(1);
+                let made = self.run(disk, console, 1);
                 self.memory = own;
                 made
             }
-            Call::Feed(bytes) => self.feed(bytes),
-            Call::Collect(length) => self.collect(length),
+            Call::Feed(bytes) => self.feed(console, bytes),
+            Call::Collect(length) => self.collect(console, length),
             Call::Tally(short) => {
                 let sheet = in_full(self.heap, short)?;
-                self.tally(sheet.as_slice())
+                self.tally(disk, sheet.as_slice())
             }
             Call::TallyIn(length) => {
                 let own = self.swap_memory(length)?;
-                let made = self.tally(b"");
+                let made = self.tally(disk, b"");
                 self.memory = own;
                 made
             }
             Call::TallyLines(count) => {
                 let sheet = repeated(self.heap, b"E\tHALT\t1\n", count)?;
-                self.tally(sheet.as_slice())
+                self.tally(disk, sheet.as_slice())
             }
         }
     }
 
     // Makes calls one after another, and parts what they answer by commas.
-    pub fn make_all(mut self, calls: &[Call]) -> anyhow::Result<String> {
+    pub fn make_all<D: Writable, C: Console>(
+        mut self,
+        disk: &mut D,
+        console: &mut C,
+        calls: &[Call],
+    ) -> anyhow::Result<String> {
         for (i, call) in calls.iter().enumerate() {
             if i > 0 {
                 self.said.push_str(", ")?;
             }
-            self.make(*call)?;
+            self.make(disk, console, *call)?;
         }
         Ok(self.said)
     }

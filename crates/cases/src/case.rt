@@ -38,7 +38,7 @@ fn answers(rt: &HostRuntime, program: &str, calls: &[Call]) -> anyhow::Result<St
     let bytes = sectors_with(heap, program)?;
     let mut disk = Overlay::new(ReadOnlyImage::new(bytes.as_slice()));
     let mut keyboard = Keyboard::new(heap)?;
-    Bench::new(heap, 2048, &mut disk, &mut keyboard)?.make_all(calls)
+    Bench::new(heap, 2048)?.make_all(&mut disk, &mut keyboard, calls)
 }
 
 impl Trial for Case {

@@ -26,7 +26,7 @@ fn try_example(rt: &HostRuntime) -> anyhow::Result<()> {
     let mut disk = Overlay::new(ReadOnlyImage::new(&sector));
     let mut console = Script::new(b"", &mut paper);
     let calls = [Call::Start, Call::Run(1_000_000), Call::Collect(4096)];
-    let said = Bench::new(heap, 65536, &mut disk, &mut console)?.make_all(&calls)?;
+    let said = Bench::new(heap, 65536)?.make_all(&mut disk, &mut console, &calls)?;
     judge(
         rt,
         "the exam's example prints A and answers 3 and HALT",
@@ -46,7 +46,7 @@ fn try_no_sector(
     let heap = rt.alloc();
     let few = [0u8; 511];
     let mut disk = Overlay::new(ReadOnlyImage::new(&few));
-    let said = Bench::new(heap, 512, &mut disk, keyboard)?.make_all(calls)?;
+    let said = Bench::new(heap, 512)?.make_all(&mut disk, keyboard, calls)?;
     judge(rt, label, said.as_str(), due)
 }
 
@@ -87,7 +87,7 @@ fn try_script(
     let mut paper = [0u8; 1];
     let mut disk = Overlay::new(ReadOnlyImage::new(bytes.as_slice()));
     let mut script = Script::new(b"a", &mut paper);
-    let said = Bench::new(heap, 2048, &mut disk, &mut script)?.make_all(calls)?;
+    let said = Bench::new(heap, 2048)?.make_all(&mut disk, &mut script, calls)?;
     judge(rt, label, said.as_str(), due)
 }
 
@@ -123,7 +123,7 @@ fn try_below(rt: &HostRuntime) -> anyhow::Result<()> {
     let mut bytes = sectors_with(heap, REWRITE)?;
     let mut keyboard = Keyboard::new(heap)?;
     let mut disk = Overlay::new(Image::new(bytes.as_mut_slice()));
-    let said = Bench::new(heap, 2048, &mut disk, &mut keyboard)?.make_all(&REWRITE_CALLS)?;
+    let said = Bench::new(heap, 2048)?.make_all(&mut disk, &mut keyboard, &REWRITE_CALLS)?;
     judge(
         rt,
         "an overlay answers what was written",
@@ -139,7 +139,7 @@ fn try_image(rt: &HostRuntime) -> anyhow::Result<()> {
     let mut bytes = sectors_with(heap, REWRITE)?;
     let mut keyboard = Keyboard::new(heap)?;
     let mut disk = Image::new(bytes.as_mut_slice());
-    let said = Bench::new(heap, 2048, &mut disk, &mut keyboard)?.make_all(&REWRITE_CALLS)?;
+    let said = Bench::new(heap, 2048)?.make_all(&mut disk, &mut keyboard, &REWRITE_CALLS)?;
     judge(
         rt,
         "an image answers what was written",
