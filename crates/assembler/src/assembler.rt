@@ -44,7 +44,7 @@ impl AssembleRefusal {
     }
 }
 
-// How many words `text` spells.
+// How many words `text` spells. A reader that answers with a Result is no Iterator, so the lines are counted here.
 fn count_words(text: &[u8]) -> Result<usize, Fault>
     requires { length text.now ≤ 65536 }
     ensures { result ≡ counted (words_from 1 (pieces 10 text.now)) }
