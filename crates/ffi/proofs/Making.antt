@@ -26,6 +26,10 @@ made_more {kind} {given} {b} b₂ calls replies n call reply in_calls in_replies
     subst (λ cs. Serves kind given b cs (take (n + 1) (set replies n reply)) b₂) (sym (take_more calls n call in_calls))
     (subst (λ rs. Serves kind given b (take n calls ++ (get_or calls n call ∷ [])) rs b₂) (sym (take_more_set replies n reply in_replies)) (one_made so_far answers))
 
+-- An answer to a call is one to any call that is equal.
+pub equal_call : {kind : Kind} {given : List ℕ} {b b' : Bench} {reply : Reply} (call call' : Call) → call ≡ call' → Answers kind call given b reply b' → Answers kind call' given b reply b'
+equal_call {kind} {given} {b} {b'} {reply} call call' is answers = subst (λ c. Answers kind c given b reply b') is answers
+
 -- The replies past it are as they were.
 pub rest_more : (before replies : List Reply) (n : ℕ) (reply : Reply) → drop n replies ≡ drop n before → drop (n + 1) (set replies n reply) ≡ drop (n + 1) before
 rest_more before replies n reply same =

@@ -1,10 +1,9 @@
 -- What each call does, and what it replies.
-use Rattle.std.specs.Prelude.{◌≡◌, ℕ, ◌+◌, ◌*◌, ◌<◌, ◌≢◌, ◌⊎◌, List, [], ◌∷◌, length, take, Result, slice_index}
+use Rattle.std.specs.Prelude.{◌≡◌, ℕ, ◌+◌, ◌*◌, ◌<◌, ◌≤◌, ◌≢◌, ◌⊎◌, List, [], ◌∷◌, length, take, Ok, Err, Result, slice_index, slice_index_or}
 use Rattle.std.specs.List.{between}
 use Rattle.assembler.specs.Texts.{bytes}
 use Rattle.console.specs.Consoles.{Console, Kind}
-use Rattle.disk.specs.declared.ReadRefusal.{ReadRefusal}
-use Rattle.disk.specs.Disks.{Disk, ReadsInto}
+use Rattle.disk.specs.Disks.{Disk}
 use Rattle.processor.specs.Machine.{Processor}
 use Rattle.station.specs.declared.answer.Answer.{Answer}
 use Rattle.station.specs.declared.answer.RunRefusal.{RunRefusal}
@@ -14,12 +13,13 @@ use Rattle.station.specs.declared.unit.Phase.{Phase}
 use Rattle.station.specs.declared.unit.Station.{Station}
 use Rattle.station.specs.Worlds.{World, Starts, Runs, Feeds, Collects, Tallies}
 use Rattle.ffi.specs.declared.asked.Asked.{Asked}
+use Rattle.ffi.specs.declared.asked.NoSuchKind.{NoSuchKind}
 use Rattle.ffi.specs.declared.asked.Asked.TheVariants as asked
 use Rattle.ffi.specs.declared.call.Call.{Call}
 use Rattle.ffi.specs.declared.call.Reply.{Reply}
 use Rattle.ffi.specs.Kinds.{KindAsks}
 use Rattle.ffi.specs.Parts.{ElsewhereSame}
-use Rattle.ffi.specs.Replies.{counted_reply, refused_reply, start_reply, run_reply, tally_reply, sector_reply}
+use Rattle.ffi.specs.Replies.{counted_reply, refused_reply, start_reply, run_reply, tally_reply}
 
 -- All that calls touch: a station, the memory that is lent to it, what its devices mean, and the output.
 pub record Bench : Type 0 where
@@ -111,26 +111,32 @@ pub record Shown (call : Call) (b : Bench) (reply : Reply) (b' : Bench) : Type 0
   pub replied : reply ≡ counted_reply count
   pub output_only : OutputOnly call b b'
 
+-- A sector goes to a part of 512 bytes. Where there is no such sector, or the part has another length, it is as it was.
+abbrev pub ReadsOut : List (List ℕ) → ℕ → List ℕ → ℕ → List ℕ → Type 0
+ReadsOut sectors sector before count after =
+    ((length before ≡ 512) × (sector < length sectors) × (count ≡ 512) × (after ≡ slice_index_or sectors sector []))
+    ⊎ (((length before ≢ 512) ⊎ (length sectors ≤ sector)) × (count ≡ 0) × (after ≡ before))
+
 -- A call reads the sector of its number into the part of the output that it names.
 pub record ReadOut (call : Call) (b : Bench) (reply : Reply) (b' : Bench) : Type 0 where
-  pub result : Result (Unit {0}) ReadRefusal
-  pub reads : ReadsInto b.disk.sectors call.number (part_of call b.output) result (part_of call b'.output)
-  pub replied : reply ≡ sector_reply result
+  pub count : ℕ
+  pub reads : ReadsOut b.disk.sectors call.number (part_of call b.output) count (part_of call b'.output)
+  pub replied : reply ≡ counted_reply count
   pub output_only : OutputOnly call b b'
 
--- What a call does that asks for this: one of an unknown kind is refused, and nothing changes.
-abbrev pub Does : Asked → Kind → Call → List ℕ → Bench → Reply → Bench → Type 0
-Does asked.Start kind call given b reply b' = Started call b reply b'
-Does asked.Run kind call given b reply b' = Ran kind call b reply b'
-Does asked.Feed kind call given b reply b' = Fed call given b reply b'
-Does asked.Collect kind call given b reply b' = Collected kind call b reply b'
-Does asked.Tally kind call given b reply b' = Tallied call given b reply b'
-Does asked.Registers kind call given b reply b' = Shown call b reply b'
-Does asked.Sector kind call given b reply b' = ReadOut call b reply b'
-Does asked.Unknown kind call given b reply b' = (reply ≡ refused_reply 255) × (b' ≡ b)
+-- What a call does that asks for this: one of no kind is refused, and nothing changes.
+abbrev pub Does : Result Asked NoSuchKind → Kind → Call → List ℕ → Bench → Reply → Bench → Type 0
+Does (Ok asked.Start) kind call given b reply b' = Started call b reply b'
+Does (Ok asked.Run) kind call given b reply b' = Ran kind call b reply b'
+Does (Ok asked.Feed) kind call given b reply b' = Fed call given b reply b'
+Does (Ok asked.Collect) kind call given b reply b' = Collected kind call b reply b'
+Does (Ok asked.Tally) kind call given b reply b' = Tallied call given b reply b'
+Does (Ok asked.Registers) kind call given b reply b' = Shown call b reply b'
+Does (Ok asked.Sector) kind call given b reply b' = ReadOut call b reply b'
+Does (Err _) kind call given b reply b' = (reply ≡ refused_reply 255) × (b' ≡ b)
 
 -- What a call answers and does on a bench, with the data that is given to all calls.
 pub record Answers (kind : Kind) (call : Call) (given : List ℕ) (b : Bench) (reply : Reply) (b' : Bench) : Type 0 where
-  pub wish : Asked
+  pub wish : Result Asked NoSuchKind
   pub wished : KindAsks call.kind wish
   pub done : Does wish kind call given b reply b'

@@ -5,7 +5,6 @@ use Rattle.assembler.specs.declared.assembler.AssembleRefusal.TheVariants as ass
 use Rattle.assembler.specs.declared.lister.ListRefusal.{ListRefusal}
 use Rattle.assembler.specs.Assembly.{assemble_refusal_number}
 use Rattle.assembler.specs.Lists.{list_refusal_number}
-use Rattle.disk.specs.declared.ReadRefusal.{ReadRefusal}
 use Rattle.station.specs.declared.answer.Answer.{Answer}
 use Rattle.station.specs.declared.answer.RunRefusal.{RunRefusal}
 use Rattle.station.specs.declared.answer.StartRefusal.{StartRefusal}
@@ -58,8 +57,3 @@ tally_reply (Err tally.OtherMemory) = refused_reply (tally_number tally.OtherMem
 tally_reply (Err tally.NotEnded) = refused_reply (tally_number tally.NotEnded)
 tally_reply (Err tally.TooLong) = refused_reply (tally_number tally.TooLong)
 tally_reply (Err (tally.Form fault)) = misformed_reply (tally_number (tally.Form fault)) fault
-
--- a sector's reply counts its bytes, 0 where it was not read
-abbrev pub sector_reply : Result (Unit {0}) ReadRefusal → Reply
-sector_reply (Ok _) = counted_reply 512
-sector_reply (Err _) = counted_reply 0

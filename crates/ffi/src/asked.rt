@@ -1,5 +1,4 @@
 // What a call asks for, by its kind.
-ghost use Rattle.std.specs.Prelude.{◌≡◌};
 ghost use Rattle.ffi.specs.Kinds.{KindAsks};
 
 #[derive(Clone, Copy)]
@@ -11,20 +10,27 @@ pub(crate) enum Asked {
     Tally,
     Registers,
     Sector,
-    Unknown,
 }
 
-pub(crate) fn asked_by(kind: u32) -> Asked
-    ensures { KindAsks kind result }
-{
-    match kind {
-        0 => Asked::Start,
-        1 => Asked::Run,
-        2 => Asked::Feed,
-        3 => Asked::Collect,
-        4 => Asked::Tally,
-        5 => Asked::Registers,
-        6 => Asked::Sector,
-        _ => Asked::Unknown,
+// No call is of this kind.
+#[derive(Clone, Copy)]
+pub(crate) struct NoSuchKind;
+
+impl TryFrom<u32> for Asked {
+    type Error = NoSuchKind;
+
+    ghost try_from_gives = { KindAsks };
+
+    fn try_from(kind: u32) -> Result<Asked, NoSuchKind> {
+        match kind {
+            0 => Ok(Asked::Start),
+            1 => Ok(Asked::Run),
+            2 => Ok(Asked::Feed),
+            3 => Ok(Asked::Collect),
+            4 => Ok(Asked::Tally),
+            5 => Ok(Asked::Registers),
+            6 => Ok(Asked::Sector),
+            _ => Err(NoSuchKind),
+        }
     }
 }

@@ -9,7 +9,6 @@ ghost use Rattle.ffi.specs.Given.{disk_given, console_given, buffers, ComesTo};
 ghost use Rattle.ffi.specs.Replies.{assemble_reply, list_reply};
 
 use crate::call::{Call, Reply};
-use crate::replies::{of_assemble, of_list};
 use crate::serve::serve;
 use assembler::assembler::assemble;
 use assembler::lister::list;
@@ -23,7 +22,7 @@ use std::alloc::Global;
 pub extern "C" fn guldresin_assemble(text: &[u8], out: &mut [u8], reply: &mut Reply)
     ensures { (r : Result ℕ AssembleRefusal) × Assembles text.now out.old r out.new × (reply.new ≡ assemble_reply r) }
 {
-    *reply = of_assemble(assemble(text, out));
+    *reply = Reply::from(assemble(text, out));
 }
 
 // Lists words into the output.
@@ -31,7 +30,7 @@ pub extern "C" fn guldresin_assemble(text: &[u8], out: &mut [u8], reply: &mut Re
 pub extern "C" fn guldresin_list(words: &[u8], out: &mut [u8], reply: &mut Reply)
     ensures { (r : Result ℕ ListRefusal) × Lists words.now out.old r out.new × (reply.new ≡ list_reply r) }
 {
-    *reply = of_list(list(words, out));
+    *reply = Reply::from(list(words, out));
 }
 
 // Which console there is, and what all calls are given.
@@ -61,10 +60,10 @@ fn on_disk<'a, 'b, D: Writable>(
         let mut console = Script::new(text, paper);
         return serve(memory, disk, &mut console, data, out, calls, replies);
     }
-    match Keyboard::new(heap) {
-        Ok(mut console) => serve(memory, disk, &mut console, data, out, calls, replies),
-        Err(_) => 0,
-    }
+    let Ok(mut console) = Keyboard::new(heap) else {
+        return 0;
+    };
+    serve(memory, disk, &mut console, data, out, calls, replies)
 }
 
 // Makes calls on a new station, and says how many. The bytes are only read; what a script leaves on the paper is not promised.

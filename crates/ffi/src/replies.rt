@@ -1,12 +1,11 @@
 // Answers as replies.
 ghost use Rattle.std.specs.Prelude.{◌≡◌};
 ghost use Rattle.ffi.specs.Numbers.{cause_number, ending_number, want_number, stop_number};
-ghost use Rattle.ffi.specs.Replies.{counted_reply, refused_reply, misformed_reply, assemble_reply, list_reply, start_reply, run_reply, tally_reply, sector_reply};
+ghost use Rattle.ffi.specs.Replies.{counted_reply, refused_reply, misformed_reply, assemble_reply, list_reply, start_reply, run_reply, tally_reply};
 
 use crate::call::Reply;
 use assembler::assembler::AssembleRefusal;
 use assembler::lister::ListRefusal;
-use disk::ReadRefusal;
 use processor::ending::{Ending, Want};
 use station::answer::{Answer, RunRefusal, StartRefusal, Stop, TallyRefusal};
 use text::fault::{Cause, Fault};
@@ -36,6 +35,8 @@ pub(crate) fn refused(number: u8) -> Reply
         field: 0,
     }
 }
+
+// These four stay functions: neither the enums nor `u32` are of this crate, so that it can't give a `From` for them.
 
 fn cause_number(cause: Cause) -> u32
     ensures { result ≡ cause_number cause }
@@ -96,68 +97,69 @@ fn misformed(number: u8, fault: Fault) -> Reply
     }
 }
 
-pub(crate) fn of_assemble(answer: Result<usize, AssembleRefusal>) -> Reply
-    ensures { result ≡ assemble_reply answer }
-{
-    match answer {
-        Ok(count) => counted(count),
-        Err(refusal) => match refusal {
-            AssembleRefusal::Form(fault) => misformed(refusal.number(), fault),
-            _ => refused(refusal.number()),
-        },
+impl From<Result<usize, AssembleRefusal>> for Reply {
+    ghost from_gives = { λ answer reply. reply ≡ assemble_reply answer };
+
+    fn from(answer: Result<usize, AssembleRefusal>) -> Reply {
+        match answer {
+            Ok(count) => counted(count),
+            Err(refusal) => match refusal {
+                AssembleRefusal::Form(fault) => misformed(refusal.number(), fault),
+                _ => refused(refusal.number()),
+            },
+        }
     }
 }
 
-pub(crate) fn of_list(answer: Result<usize, ListRefusal>) -> Reply
-    ensures { result ≡ list_reply answer }
-{
-    match answer {
-        Ok(count) => counted(count),
-        Err(refusal) => refused(refusal.number()),
+impl From<Result<usize, ListRefusal>> for Reply {
+    ghost from_gives = { λ answer reply. reply ≡ list_reply answer };
+
+    fn from(answer: Result<usize, ListRefusal>) -> Reply {
+        match answer {
+            Ok(count) => counted(count),
+            Err(refusal) => refused(refusal.number()),
+        }
     }
 }
 
-pub(crate) fn of_start(answer: Result<(), StartRefusal>) -> Reply
-    ensures { result ≡ start_reply answer }
-{
-    match answer {
-        Ok(()) => counted(0),
-        Err(refusal) => refused(refusal.number()),
+impl From<Result<(), StartRefusal>> for Reply {
+    ghost from_gives = { λ answer reply. reply ≡ start_reply answer };
+
+    fn from(answer: Result<(), StartRefusal>) -> Reply {
+        match answer {
+            Ok(()) => counted(0),
+            Err(refusal) => refused(refusal.number()),
+        }
     }
 }
 
-pub(crate) fn of_run(answer: Result<Answer, RunRefusal>) -> Reply
-    ensures { result ≡ run_reply answer }
-{
-    match answer {
-        Ok(ran) => Reply {
-            refusal: 0,
-            count: ran.count as usize,
-            reason: stop_number(ran.stop),
-            line: 0,
-            field: 0,
-        },
-        Err(refusal) => refused(refusal.number()),
+impl From<Result<Answer, RunRefusal>> for Reply {
+    ghost from_gives = { λ answer reply. reply ≡ run_reply answer };
+
+    fn from(answer: Result<Answer, RunRefusal>) -> Reply {
+        match answer {
+            Ok(ran) => Reply {
+                refusal: 0,
+                count: ran.count as usize,
+                reason: stop_number(ran.stop),
+                line: 0,
+                field: 0,
+            },
+            Err(refusal) => refused(refusal.number()),
+        }
     }
 }
 
-pub(crate) fn of_tally(answer: Result<u32, TallyRefusal>) -> Reply
-    ensures { result ≡ tally_reply answer }
-{
-    match answer {
-        Ok(points) => counted(points as usize),
-        Err(refusal) => match refusal {
-            TallyRefusal::Form(fault) => misformed(refusal.number(), fault),
-            _ => refused(refusal.number()),
-        },
-    }
-}
+impl From<Result<u32, TallyRefusal>> for Reply {
+    ghost from_gives = { λ answer reply. reply ≡ tally_reply answer };
 
-pub(crate) fn of_sector(answer: Result<(), ReadRefusal>) -> Reply
-    ensures { result ≡ sector_reply answer }
-{
-    match answer {
-        Ok(()) => counted(512),
-        Err(_) => counted(0),
+    fn from(answer: Result<u32, TallyRefusal>) -> Reply {
+        match answer {
+            Ok(points) => counted(points as usize),
+            Err(refusal) => match refusal {
+                TallyRefusal::Form(fault) => misformed(refusal.number(), fault),
+                _ => refused(refusal.number()),
+            },
+        }
     }
 }

@@ -4,7 +4,7 @@ ghost use Rattle.station.specs.Views.{disk_of};
 ghost use Rattle.ffi.specs.Calls.{bench, Answers};
 ghost use Rattle.ffi.specs.Serves.{new_bench, Served};
 
-use crate::asked::{Asked, asked_by};
+use crate::asked::Asked;
 use crate::call::{Call, Reply};
 use crate::replies::refused;
 use crate::single::{collect, feed, registers, run, sector, start, tally};
@@ -24,7 +24,10 @@ fn answer<D: Writable, C: Console>(
 ) -> Reply
     ensures { Answers C.Console.kind call «data».now (bench station.old memory.old (disk_of D.Readable D.Writable.own disk.old) (C.Console.meaning console.old) out.old) result (bench station.new memory.new (disk_of D.Readable D.Writable.own disk.new) (C.Console.meaning console.new) out.new) }
 {
-    match asked_by(call.kind) {
+    let Ok(asked) = Asked::try_from(call.kind) else {
+        return refused(255);
+    };
+    match asked {
         Asked::Start => start(station, memory, disk, console, call),
         Asked::Run => run(station, memory, disk, console, call),
         Asked::Feed => feed(station, console, data, call),
@@ -32,7 +35,6 @@ fn answer<D: Writable, C: Console>(
         Asked::Tally => tally(station, memory, disk, data, call),
         Asked::Registers => registers(station, out, call),
         Asked::Sector => sector(disk, out, call),
-        Asked::Unknown => refused(255),
     }
 }
 
@@ -49,9 +51,12 @@ pub(crate) fn serve<D: Writable, C: Console>(
     ensures { (s : Station) × Served C.Console.kind «data».now (new_bench memory.old (disk_of D.Readable D.Writable.own disk.old) (C.Console.meaning console.old) out.old) calls.now replies.old result replies.new (bench s memory.new (disk_of D.Readable D.Writable.own disk.new) (C.Console.meaning console.new) out.new) }
 {
     let mut station = Station::new();
-    let count = calls.len().min(replies.len());
-    for k in 0..count {
-        replies[k] = answer(&mut station, memory, disk, console, data, out, calls[k]);
+    let room = replies.len();
+    for (k, reply) in replies.iter_mut().enumerate() {
+        let Some(call) = calls.get(k) else {
+            return k;
+        };
+        *reply = answer(&mut station, memory, disk, console, data, out, *call);
     }
-    count
+    room
 }

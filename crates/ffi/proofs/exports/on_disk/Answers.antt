@@ -11,9 +11,9 @@ returns-then-given g c =
     let room = length c.args.paper.now in
     inl (finished c.args.given.scripted scripted_kind _ text room _ _ (sym (ap kind_given yes)) (c.new-console.ensures.starts ∙ sym (ap (λ b. console_given b text room) yes)) (clash c.args.given.scripted yes) c.serve.ensures)
 
-pub returns-in-Ok : goal.returns-in-Ok
-returns-in-Ok g c =
+pub returns : goal.returns
+returns g c =
     let no = c.if-given.false in
     let text = c.args.text.now in
     let room = length c.args.paper.now in
-    inl (finished c.args.given.scripted typed_kind _ text room _ _ (sym (ap kind_given no)) (c.in-Ok.ensures ∙ sym (ap (λ b. console_given b text room) no)) (λ _. refl) c.serve-in-Ok.ensures)
+    inl (finished c.args.given.scripted typed_kind _ text room _ _ (sym (ap kind_given no)) (c.in-Ok.ensures ∙ sym (ap (λ b. console_given b text room) no)) (λ _. refl) c.serve-2.ensures)

@@ -1,19 +1,30 @@
-use Rattle.std.proofs.Common.{◌≡◌, refl, arith}
-use Rattle.ffi.proofs.Making.{begun, made_more, rest_more}
+use Rattle.std.proofs.Common.{◌≡◌, ◌<◌, length, sym, refl, arith}
+use Rattle.std.proofs.lemmas.Bool.{ltb-true, ltb-false}
+use Rattle.std.proofs.lemmas.List.{set-get_or}
+use Rattle.ffi.proofs.Making.{begun, made_more, equal_call, rest_more}
 use Rattle.ffi.proofs.serve.serve.Goals as goal
 
 pub loop-k-init : goal.loop-k-init
-loop-k-init g c = (begun _ _ c.new-station.result _ _ _ _ c.new-station.ensures.registers c.new-station.ensures.phase, refl)
+loop-k-init g c = (begun _ _ c.new-station.result _ _ _ _ c.new-station.ensures.registers c.new-station.ensures.phase, refl, omega arith)
 
 pub loop-k-preserved : goal.loop-k-preserved
 loop-k-preserved g c =
-    let v = c.loop-k.invariant in (
-      made_more _ c.args.calls.now c.loop-k.replies c.loop-k.k _ c.answer.result (omega arith) (omega arith) v.0 c.answer.ensures,
+    let v = c.loop-k.invariant in
+    let found = c.in-Some.ensures.lookup in
+    let within : c.loop-k.k < length c.args.calls.now = ltb-true _ _ (sym found.0) in (
+      made_more _ c.args.calls.now c.loop-k.replies c.loop-k.k c.in-Some.call.now c.answer.result within (omega arith) v.0 (equal_call _ _ found.1 c.answer.ensures),
       rest_more c.args.replies.now c.loop-k.replies c.loop-k.k c.answer.result v.1,
+      omega (arith, within),
     )
+
+pub returns-in_default : goal.returns-in_default
+returns-in_default g c =
+    let v = c.loop-k.invariant in
+    let past = ltb-false _ _ (sym c.in_default.ensures.lookup.0) in
+    rw set-get_or (c.loop-k.station, record { as_many = omega (arith, past); made = v.0; rest_same = v.1 })
 
 pub returns : goal.returns
 returns g c =
     let v = c.loop-k.invariant in
-    let all : c.loop-k.k ≡ c.min-count.result = omega arith in
-    (c.loop-k.station, record { as_many = c.min-count.ensures; made = rw all at v.0; rest_same = rw all at v.1 })
+    let all : c.loop-k.k ≡ length c.args.replies.now = omega arith in
+    (c.loop-k.station, rw (← all) record { as_many = omega arith; made = v.0; rest_same = v.1 })

@@ -1,4 +1,4 @@
-use Rattle.std.proofs.Common.{◌≡◌, take, drop}
+use Rattle.std.proofs.Common.{◌≡◌, ◌≤◌, length, take, drop}
 use Rattle.station.specs.Views.{disk_of}
 use Rattle.ffi.specs.Calls.{bench}
 use Rattle.ffi.specs.Serves.{new_bench, Serves}
@@ -10,3 +10,4 @@ invariant-loop-k g l =
     (take l.k l.calls) (take l.k l.replies)
     (bench l.station l.memory (disk_of g.D.Readable g.D.Writable l.disk) (g.C.Console.meaning l.console) l.out)
     × (drop l.k l.replies ≡ drop l.k l.initial.replies)
+    × (l.k ≤ length l.calls)

@@ -17,7 +17,7 @@ returns g c output =
       runs = on_front m left c.args.call.memory end c.min-end.ensures size
           (λ l l'. Runs g.C.Console.kind (world c.args.station.now l (disk c.args.disk.now) (mean c.args.console.now)) c.args.call.number c.run.result (world c.run.new.self l' (disk c.run.new.disk) (mean c.run.new.console)))
           c.run.ensures.runs;
-      replied = c.of_run.ensures;
+      replied = c.from.ensures;
       past_same = past_front m left c.args.call.memory end c.min-end.ensures size;
       output_same = refl {a = output};
     }

@@ -16,7 +16,7 @@ returns g c d output same =
       starts = on_front m left c.args.call.memory end c.min-end.ensures size
           (λ l l'. Starts (world c.args.station.now l d k) c.start.result (world c.start.new.self l' d k))
           (c.start.ensures d same);
-      replied = c.of_start.ensures;
+      replied = c.from.ensures;
       past_same = past_front m left c.args.call.memory end c.min-end.ensures size;
       output_same = refl {a = output};
     }

@@ -22,6 +22,6 @@ returns g c d k output same =
       tallies =
           subst (λ ss. Tallies (processor s.registers (take size m)) s.phase ss (between c.args.call.from c.args.call.to c.args.data.now) result) (sym same)
           (subst (λ l. Tallies (processor s.registers (take size m)) s.phase below l result) c.part.ensures named);
-      replied = c.of_tally.ensures;
+      replied = c.from.ensures;
       all_same = refl;
     }
