@@ -46,7 +46,7 @@ impl Sight<'_> {
         }
         Ok(Request::Sets {
             register: a,
-            value: load(self.memory, at, width.size()),
+            value: load(self.memory, at, width),
         })
     }
 
@@ -131,7 +131,7 @@ impl Registers {
         if at % 4 != 0 || at as usize + 4 > memory.len() {
             return Err(Ending::Fetch);
         }
-        let word = load(memory, at as usize, 4);
+        let word = load(memory, at as usize, Width::Word);
         let instruction = Instruction::decode(word).ok_or(Ending::Code)?;
         let sight = Sight {
             registers: self,
