@@ -18,9 +18,9 @@ use Rattle.processor.specs.Effects.{value, gets, moved, stored, bytes_at, unalig
 abbrev pub processor : Registers → List ℕ → Processor
 processor registers memory = record { registers = registers.words; memory = memory }
 
--- the processor that the code sees
+-- the processor that an instruction reads, whose r63 has moved on
 abbrev pub seen : Sight → Processor
-seen s = processor s.registers.now s.memory.now
+seen s = moved (processor s.registers.now s.memory.now)
 
 -- x where an access that has to be aligned can be made in a memory of this size, else why it cannot
 abbrev pub if_placed : {X : Type 0} → ℕ → ℕ → ℕ → X → Result X Ending

@@ -1,6 +1,6 @@
 // What the next instruction comes to: this only reads.
 ghost use Rattle.std.specs.Prelude.{◌≡◌, ◌+◌, ◌^◌, ◌<◌, length, Ok};
-ghost use Rattle.processor.specs.Effects.{value, moved, load as load_effect, store as store_effect, effect};
+ghost use Rattle.processor.specs.Effects.{value, load as load_effect, store as store_effect, effect};
 ghost use Rattle.processor.specs.Widths.{size};
 ghost use Rattle.processor.specs.Words.{low};
 ghost use Rattle.processor.specs.Requests.{Asks, Decides, processor, seen, if_placed, transfer};
@@ -15,7 +15,7 @@ use u5::operand::Register;
 
 const COUNTER: Register = Register { number: 63 };
 
-// What an instruction reads: the registers and memory, before it has changed them.
+// What an instruction reads: the registers, r63 moved on, and memory.
 #[derive(Clone, Copy)]
 struct Sight<'a> {
     registers: &'a Registers,
@@ -23,22 +23,21 @@ struct Sight<'a> {
 }
 
 impl Sight<'_> {
-    // What a register reads as while an instruction executes.
     fn value(&self, r: Register) -> u32
-        ensures { result ≡ value (moved (seen self.now)) r }
+        ensures { result ≡ value (seen self.now) r }
     {
         self.registers.operand(r)
     }
 
     // What two registers add up to: a result, or an address.
     fn sum(&self, b: Register, c: Register) -> u32
-        ensures { result ≡ low (value (moved (seen self.now)) b + value (moved (seen self.now)) c) }
+        ensures { result ≡ low (value (seen self.now) b + value (seen self.now) c) }
     {
         self.value(b).wrapping_add(self.value(c))
     }
 
     fn load(&self, width: Width, a: Register, at: u32) -> Result<Request, Ending>
-        ensures { Asks (λ p _. load_effect (size width) a at p) (moved (seen self.now)) result }
+        ensures { Asks (λ p _. load_effect (size width) a at p) (seen self.now) result }
     {
         let at = at as usize;
         if at + width.size() > self.memory.len() {
@@ -46,12 +45,12 @@ impl Sight<'_> {
         }
         Ok(Request::Sets {
             register: a,
-            value: load(self.memory, at, width.size()),
+            value: load(self.memory, at, width),
         })
     }
 
     fn store(&self, width: Width, a: Register, at: u32) -> Result<Request, Ending>
-        ensures { Asks (λ p _. store_effect (size width) a at p) (moved (seen self.now)) result }
+        ensures { Asks (λ p _. store_effect (size width) a at p) (seen self.now) result }
     {
         let at = at as usize;
         placed(self.memory, at, width.size())?;
@@ -64,7 +63,7 @@ impl Sight<'_> {
 
     // The address and the sector that two registers name.
     fn transfer(&self, a: Register, b: Register) -> Result<(usize, u32), Ending>
-        ensures { result ≡ transfer (moved (seen self.now)) a b }
+        ensures { result ≡ transfer (seen self.now) a b }
     {
         let at = self.value(a) as usize;
         placed(self.memory, at, 512)?;
@@ -72,7 +71,7 @@ impl Sight<'_> {
     }
 
     fn divide(&self, a: Register, b: Register, c: Register) -> Result<Request, Ending>
-        ensures { Asks (effect (Instruction.Div a b c)) (moved (seen self.now)) result }
+        ensures { Asks (effect (Instruction.Div a b c)) (seen self.now) result }
     {
         let divisor = self.value(c);
         if divisor == 0 {
@@ -82,7 +81,7 @@ impl Sight<'_> {
     }
 
     fn move_if(&self, a: Register, b: Register, c: Register) -> Request
-        ensures { Asks (effect (Instruction.CMov a b c)) (moved (seen self.now)) (Ok result) }
+        ensures { Asks (effect (Instruction.CMov a b c)) (seen self.now) (Ok result) }
     {
         if self.value(c) == 0 {
             return Request::Passes;
@@ -90,9 +89,9 @@ impl Sight<'_> {
         sets(a, self.value(b))
     }
 
-    // What an instruction comes to, r63 already moved on.
+    // What an instruction comes to.
     fn execute(&self, instruction: Instruction) -> Result<Request, Ending>
-        ensures { Asks (effect instruction) (moved (seen self.now)) result }
+        ensures { Asks (effect instruction) (seen self.now) result }
     {
         Ok(match instruction {
             Instruction::LoadB { a, b, c } => self.load(Width::Byte, a, self.sum(b, c))?,
@@ -131,7 +130,7 @@ impl Registers {
         if at % 4 != 0 || at as usize + 4 > memory.len() {
             return Err(Ending::Fetch);
         }
-        let word = load(memory, at as usize, 4);
+        let word = load(memory, at as usize, Width::Word);
         let instruction = Instruction::decode(word).ok_or(Ending::Code)?;
         let sight = Sight {
             registers: self,

@@ -26,10 +26,11 @@ impl Registers {
                 Ok(Outcome::Done)
             }
             Request::Stores { at, width, value } => {
+                // One width an arm makes each copy a move; one call for all three widths is slower by a tenth.
                 match width {
-                    Width::Byte => store(memory, at, 1, value),
-                    Width::Half => store(memory, at, 2, value),
-                    Width::Word => store(memory, at, 4, value),
+                    Width::Byte => store(memory, at, Width::Byte, value),
+                    Width::Half => store(memory, at, Width::Half, value),
+                    Width::Word => store(memory, at, Width::Word, value),
                 }
                 self.advance();
                 Ok(Outcome::Done)
