@@ -1,5 +1,5 @@
 // Tests of the images.
-use crate::{edges, last_sector, read_at};
+use crate::{edges, last_sector, read_at, read_part};
 use disk::{Image, NoSuchSector, ReadOnlyImage, Readable, Writable, WriteRefusal};
 use std::test::Fail;
 
@@ -61,4 +61,15 @@ fn a_part_is_untouched_where_there_is_no_sector(rt: HostRuntime) {
     let mut memory = [7; 512];
     assert_eq!(rt; read_at(&disk, &mut memory, 0, 1), Err(NoSuchSector));
     assert!(rt; memory[0] == 7 && memory[511] == 7);
+}
+
+#[test]
+fn only_a_part_of_one_sector_is_read_into(rt: HostRuntime) {
+    let bytes = [9; 512];
+    let disk = ReadOnlyImage::new(&bytes);
+    let mut less = [0; 511];
+    assert!(rt; !read_part(&disk, &mut less, 0) && !read_part(&disk, &mut less, 1));
+    assert!(rt; less[0] == 0);
+    let mut one = [0; 512];
+    assert!(rt; read_part(&disk, &mut one, 0) && one[511] == 9);
 }
