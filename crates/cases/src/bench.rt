@@ -98,7 +98,7 @@ impl Bench {
     ) -> anyhow::Result<()> {
         let memory = self.memory.as_mut_slice();
         match self.station.run(memory, disk, console, steps) {
-            Ok(answer) => write!(self.said, "{} {}", answer.count, answer.stop.name())?,
+            Ok(answer) => write!(self.said, "{} {}", answer.count, answer.stop)?,
             Err(refusal) => write!(self.said, "refused {}", refusal.number())?,
         }
         Ok(())

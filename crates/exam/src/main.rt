@@ -44,7 +44,7 @@ fn say<C: Console>(
     if let Some(text) = printed.get(..came) {
         rt.stdout().write_all(text)?;
     }
-    println!(rt; "{}\t{}", answer.count, answer.stop.name())
+    println!(rt; "{}\t{}", answer.count, answer.stop)
 }
 
 fn examine<D: Writable, C: Console>(

@@ -1,10 +1,11 @@
 // The answer text: read, assembled, listed, and the listing assembled again.
 use crate::folder::HandIn;
-use crate::words::{count_lines, say_fault};
+use crate::words::say_fault;
 use assembler::assembler::{AssembleRefusal, assemble};
 use assembler::lister::list;
 use sitting::token::Sitting;
 use std::io;
+use text::lines::count_newlines;
 
 // The most words that a text can spell, and the longest listing of them, in bytes.
 const WORDS: usize = 13312;
@@ -32,7 +33,7 @@ fn read_back(rt: &HostRuntime, words: &[u8]) -> io::Result<()> {
         }
     };
     let text = &listing[..size];
-    println!(rt; "listed: lines {}, bytes {size}", count_lines(text))?;
+    println!(rt; "listed: lines {}, bytes {size}", count_newlines(text))?;
     let mut again = [0u8; WORDS];
     match assemble(text, &mut again) {
         Ok(count) => {
@@ -54,7 +55,7 @@ impl HandIn<'_> {
         sitting: &mut Sitting,
         text: &[u8],
     ) -> io::Result<Option<u32>> {
-        println!(rt; "answer.txt: bytes {}, lines {}", text.len(), count_lines(text))?;
+        println!(rt; "answer.txt: bytes {}, lines {}", text.len(), count_newlines(text))?;
         let mut words = [0u8; WORDS];
         match assemble(text, &mut words) {
             Ok(count) => {

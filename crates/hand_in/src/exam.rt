@@ -1,6 +1,6 @@
 // The words on a disk: started, run, collected and tallied.
 use crate::folder::HandIn;
-use crate::words::{count_lines, say_fault};
+use crate::words::say_fault;
 use console::{Console, Script};
 use disk::{ReadOnlyImage, Readable, Writable};
 use overlay::Overlay;
@@ -9,6 +9,7 @@ use station::answer::{Answer, TallyRefusal};
 use station::unit::Station;
 use std::io::{ErrorKind, Write};
 use std::{fs, io};
+use text::lines::count_newlines;
 
 fn say_run(rt: &HostRuntime, printed: &[u8], answer: Answer) -> io::Result<()> {
     println!(rt; "printed: bytes {}", printed.len())?;
@@ -18,7 +19,7 @@ fn say_run(rt: &HostRuntime, printed: &[u8], answer: Answer) -> io::Result<()> {
             println!(rt; "")?;
         }
     }
-    println!(rt; "ran: instructions {}, {}", answer.count, answer.stop.name())
+    println!(rt; "ran: instructions {}, {}", answer.count, answer.stop)
 }
 
 fn say_untallied(rt: &HostRuntime, refusal: TallyRefusal) -> io::Result<()> {
@@ -79,7 +80,7 @@ impl HandIn<'_> {
         };
         match station.tally(memory, disk, sheet.as_slice()) {
             Ok(points) => {
-                let lines = count_lines(sheet.as_slice());
+                let lines = count_newlines(sheet.as_slice());
                 println!(rt; "sheet.txt: lines {lines}, points {points}")?;
                 Ok(Some(points))
             }

@@ -2,10 +2,6 @@
 use std::io;
 use text::fault::{Cause, Fault};
 
-pub(crate) fn count_lines(text: &[u8]) -> usize {
-    text.iter().filter(|c| **c == b'\n').count()
-}
-
 // What is wrong with a field, in a candidate's words.
 fn explain(fault: Fault) -> &'static str {
     match fault.cause {
@@ -26,7 +22,6 @@ pub(crate) fn say_fault(
     fault: Fault,
 ) -> io::Result<()> {
     let Fault { line, field, cause } = fault;
-    let name = cause.name();
     let why = explain(fault);
-    println!(rt; "refused {number}: {file}, line {line}, field {field}, {name}: {why}")
+    println!(rt; "refused {number}: {file}, line {line}, field {field}, {cause}: {why}")
 }

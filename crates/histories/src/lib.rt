@@ -34,23 +34,19 @@ pub fn sit<D: Writable, C: Console>(
 ) -> Result<Report, StartRefusal>
     ensures { Sat C.Console.kind (world station.old memory.old (disk_of D.Readable D.Writable.own disk.old) (C.Console.meaning console.old)) script.now paper.new result (world station.new memory.new (disk_of D.Readable D.Writable.own disk.new) (C.Console.meaning console.new)) }
 {
-    match station.start(memory, disk, console) {
-        Err(refusal) => Err(refusal),
-        Ok(()) => {
-            let first = station.run(memory, disk, console, steps);
-            let went = station.feed(console, script);
-            let second = station.run(memory, disk, console, steps);
-            let came = station.collect(console, paper);
-            let points = station.tally(memory, disk, sheet);
-            Ok(Report {
-                first,
-                went,
-                second,
-                came,
-                points,
-            })
-        }
-    }
+    station.start(memory, disk, console)?;
+    let first = station.run(memory, disk, console, steps);
+    let went = station.feed(console, script);
+    let second = station.run(memory, disk, console, steps);
+    let came = station.collect(console, paper);
+    let points = station.tally(memory, disk, sheet);
+    Ok(Report {
+        first,
+        went,
+        second,
+        came,
+        points,
+    })
 }
 
 // There is a history with every kind of call, a refused start, run and tally among them.

@@ -52,7 +52,7 @@ impl Hall {
     ) -> io::Result<()> {
         let memory = self.memory.as_mut_slice();
         match self.station.run(memory, disk, console, steps) {
-            Ok(answer) => println!(rt; "{}\t{}", answer.count, answer.stop.name()),
+            Ok(answer) => println!(rt; "{}\t{}", answer.count, answer.stop),
             Err(refusal) => say_refused(rt, refusal.number()),
         }
     }

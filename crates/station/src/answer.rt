@@ -1,8 +1,9 @@
 // What the station's calls answer.
-ghost use Rattle.std.specs.Prelude.{◌≡◌};
+ghost use Rattle.std.specs.Prelude.{◌≡◌, Some};
 ghost use Rattle.station.specs.Numbers.{stop_name, start_number, run_number, tally_number};
 
 use processor::ending::{Ending, Want};
+use std::fmt;
 use text::fault::Fault;
 
 // Why a run stopped: all granted steps were executed, an instruction wants what is not there, or the station has ended.
@@ -54,6 +55,14 @@ impl Stop {
             Stop::Wants(want) => want.name(),
             Stop::Ended(ending) => ending.name(),
         }
+    }
+}
+
+impl fmt::Display for Stop {
+    ghost output = { λ stop. Some (stop_name stop) };
+
+    fn fmt<W: fmt::Write>(&self, f: &mut fmt::Formatter<W>) -> fmt::Result {
+        f.write_str(self.name())
     }
 }
 
