@@ -13,7 +13,7 @@ pub(crate) fn sectors_of(bytes: &[u8]) -> &[[u8; 512]]
     &whole[..whole.len().min(65_536)]
 }
 
-// Copies the block over a sector of the bytes.
+// Copies the block over a sector of the bytes. The part is cut by its place, since `as_chunks_mut` says nothing of what the bytes end as.
 pub(crate) fn write_sector(
     bytes: &mut [u8],
     sector: u32,
