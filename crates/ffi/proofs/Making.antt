@@ -12,7 +12,7 @@ use Rattle.ffi.specs.Serves.{new_bench, Serves, none_made, one_made, Served}
 use Rattle.ffi.specs.Given.{console_given, kind_given, Buffers, Finished}
 
 -- A station with 64 zeros that is not started is a new one.
-pub begun : (kind : Kind) (given : List ℕ) (s : Station) (m : List ℕ) (d : Disk) (k : Console) (output : List ℕ) → s.registers.words ≡ replicate 64 0 → s.phase ≡ Unstarted
+pub begun : (kind : Kind) (given : List ℕ) (s : Station) (m : List ℕ) (d : Disk) (k : Console) (output : List ℕ) → s.registers ≡ replicate 64 0 → s.phase ≡ Unstarted
     → Serves kind given (new_bench m d k output) [] [] (bench s m d k output)
 begun kind given s m d k output zeros unstarted =
     let is : bench s m d k output ≡ new_bench m d k output = λ i. record { registers = zeros i; phase = unstarted i; memory = m; disk = d; console = k; output = output } in

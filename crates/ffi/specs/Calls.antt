@@ -32,7 +32,7 @@ pub record Bench : Type 0 where
 
 -- the bench of a station and of what is lent to it
 abbrev pub bench : Station → List ℕ → Disk → Console → List ℕ → Bench
-bench s memory d k output = record { registers = s.registers.words; phase = s.phase; memory = memory; disk = d; console = k; output = output }
+bench s memory d k output = record { registers = s.registers; phase = s.phase; memory = memory; disk = d; console = k; output = output }
 
 -- the processor whose memory is the first bytes of a bench's, so many as a call names
 abbrev pub processor_named : ℕ → Bench → Processor

@@ -92,7 +92,7 @@ pub(crate) fn registers(station: &Station, out: &mut [u8], call: Call) -> Reply
 
 // The registers, four bytes each, into a buffer that has just room for them.
 fn show(station: &Station, out: &mut [u8]) -> usize
-    ensures { Shows station.now.registers.words out.old result out.new }
+    ensures { Shows station.now.registers out.old result out.new }
 {
     if out.len() != 256 {
         return 0;

@@ -16,7 +16,7 @@ use Rattle.processor.specs.Effects.{value, gets, moved, stored, bytes_at, unalig
 
 -- the processor that registers and memory are
 abbrev pub processor : Registers → List ℕ → Processor
-processor registers memory = record { registers = registers.words; memory = memory }
+processor registers memory = record { registers = registers; memory = memory }
 
 -- the processor that an instruction reads, whose r63 has moved on
 abbrev pub seen : Sight → Processor

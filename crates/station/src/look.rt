@@ -7,7 +7,7 @@ use u5::operand::Register;
 impl Station {
     // What a register holds.
     pub fn register(&self, register: Register) -> u32
-        ensures { result ≡ slice_index self.now.registers.words register.number }
+        ensures { result ≡ slice_index self.now.registers register.number }
     {
         self.registers.get(register)
     }

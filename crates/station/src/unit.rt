@@ -21,7 +21,7 @@ pub struct Station {
 
 impl Station {
     pub fn new() -> Station
-        ensures registers { result.registers.words ≡ replicate 64 0 }
+        ensures registers { result.registers ≡ replicate 64 0 }
         ensures phase { result.phase ≡ Phase.Unstarted }
     {
         Station {

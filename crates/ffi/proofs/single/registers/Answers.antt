@@ -14,7 +14,7 @@ returns c memory d k =
     record {
       count = c.show.result;
       shows = on_part out left c.args.call.from c.args.call.to begin end c.part-part.ensures.ends c.part-part.ensures.begins size
-          (λ l l'. Shows c.args.station.now.registers.words l c.show.result l')
+          (λ l l'. Shows c.args.station.now.registers l c.show.result l')
           c.show.ensures;
       replied = c.counted.ensures;
       output_only = record {

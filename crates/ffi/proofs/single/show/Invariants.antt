@@ -4,4 +4,4 @@ use Rattle.assembler.specs.Texts.{bytes}
 use Rattle.ffi.proofs.single.show.Given as goal
 
 abbrev pub invariant-loop-number : goal.invariant-loop-number
-invariant-loop-number l = (k : ℕ) → k < l.number → between (4 * k) (4 * k + 4) l.out ≡ bytes (get_or l.station.registers.words k 0 ∷ [])
+invariant-loop-number l = (k : ℕ) → k < l.number → between (4 * k) (4 * k + 4) l.out ≡ bytes (get_or l.station.registers k 0 ∷ [])
