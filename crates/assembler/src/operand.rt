@@ -1,6 +1,5 @@
 // The operands of a line: registers and numbers.
 ghost use Rattle.std.specs.Prelude.{◌≡◌, ◌≤◌, IfOk};
-ghost use Rattle.text.specs.Readers.{fields_left};
 ghost use Rattle.u5.specs.Operations.{largest};
 ghost use Rattle.assembler.specs.Lines.{register_of, read_as, OperandRead};
 
@@ -42,7 +41,7 @@ pub(crate) fn read_operand(
     kind: Kind,
     number: usize,
 ) -> Result<u32, FieldFault>
-    ensures reads { OperandRead (fields_left fields.old) kind number result (fields_left fields.new) }
+    ensures reads { OperandRead fields.old kind number result fields.new }
     ensures bound { IfOk result (λ n. n ≤ largest kind) }
 {
     fields.read(number, |field| read_as(kind, field))

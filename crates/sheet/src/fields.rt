@@ -1,7 +1,6 @@
 // The fields of a sheet's line.
 ghost use Rattle.std.specs.Prelude.{◌≡◌, ◌≤◌, IfOk};
 ghost use Rattle.text.specs.Numerals.{number_up_to};
-ghost use Rattle.text.specs.Readers.{fields_left};
 ghost use Rattle.sheet.specs.Lines.{points_in, ending_in, letter_of, with_rest, next, last_points};
 
 use processor::ending::Ending;
@@ -43,7 +42,7 @@ pub(crate) fn read_up_to(
     number: usize,
     limit: u32,
 ) -> Result<u32, FieldFault>
-    ensures reads { with_rest result (fields_left fields.new) ≡ next (number_up_to limit) number (fields_left fields.old) }
+    ensures reads { with_rest result fields.new ≡ next (number_up_to limit) number fields.old }
     ensures bound { IfOk result (λ n. n ≤ limit) }
 {
     fields.read(number, |field: &[u8]| read_number(field, limit))
@@ -52,7 +51,7 @@ pub(crate) fn read_up_to(
 // The points in the next field, which has to be the last.
 pub(crate) fn read_points(fields: &mut FieldReader, number: usize) -> Result<u32, FieldFault>
     requires { number ≤ 9 }
-    ensures { result ≡ last_points number (fields_left fields.old) }
+    ensures { result ≡ last_points number fields.old }
 {
     let points = fields.read(number, points)?;
     fields.end(number + 1)?;

@@ -1,6 +1,5 @@
 // A line of a sheet: its letter, and what follows it.
 ghost use Rattle.std.specs.Prelude.{◌≡◌};
-ghost use Rattle.text.specs.Readers.{fields_left};
 ghost use Rattle.sheet.specs.Lines.{word_mark, byte_mark, stored_mark, ends_mark, by_letter, line_mark};
 
 use crate::fields::{ending, letter, read_points, read_up_to};
@@ -10,7 +9,7 @@ use text::fields::FieldReader;
 use u5::operand::Register;
 
 fn word_mark(fields: &mut FieldReader) -> Result<Mark, FieldFault>
-    ensures { result ≡ word_mark (fields_left fields.old) }
+    ensures { result ≡ word_mark fields.old }
 {
     let number = read_up_to(fields, 2, 63)?;
     let word = read_up_to(fields, 3, u32::MAX)?;
@@ -26,7 +25,7 @@ fn word_mark(fields: &mut FieldReader) -> Result<Mark, FieldFault>
 }
 
 fn byte_mark(fields: &mut FieldReader) -> Result<Mark, FieldFault>
-    ensures { result ≡ byte_mark (fields_left fields.old) }
+    ensures { result ≡ byte_mark fields.old }
 {
     let address = read_up_to(fields, 2, 1_048_575)?;
     let byte = read_up_to(fields, 3, 255)?;
@@ -39,7 +38,7 @@ fn byte_mark(fields: &mut FieldReader) -> Result<Mark, FieldFault>
 }
 
 fn stored_mark(fields: &mut FieldReader) -> Result<Mark, FieldFault>
-    ensures { result ≡ stored_mark (fields_left fields.old) }
+    ensures { result ≡ stored_mark fields.old }
 {
     let sector = read_up_to(fields, 2, 65_535)?;
     let offset = read_up_to(fields, 3, 511)?;
@@ -54,7 +53,7 @@ fn stored_mark(fields: &mut FieldReader) -> Result<Mark, FieldFault>
 }
 
 fn ends_mark(fields: &mut FieldReader) -> Result<Mark, FieldFault>
-    ensures { result ≡ ends_mark (fields_left fields.old) }
+    ensures { result ≡ ends_mark fields.old }
 {
     let ending = fields.read(2, ending)?;
     let points = read_points(fields, 3)?;
@@ -63,7 +62,7 @@ fn ends_mark(fields: &mut FieldReader) -> Result<Mark, FieldFault>
 
 // What follows the letter.
 fn by_letter(letter: char, fields: &mut FieldReader) -> Result<Mark, FieldFault>
-    ensures { result ≡ by_letter letter (fields_left fields.old) }
+    ensures { result ≡ by_letter letter fields.old }
 {
     match letter {
         'R' => word_mark(fields),

@@ -1,21 +1,10 @@
 -- What readers of lines and fields hand out.
-use Rattle.std.specs.Prelude.{◌≡◌, ℕ, ◌<◌, List, [], ◌∷◌, length, drop, Some, None, Ok, Err, Option, Result}
+use Rattle.std.specs.Prelude.{◌≡◌, ℕ, ◌<◌, List, [], ◌∷◌, length, Some, None, Ok, Err, Option, Result}
 use Rattle.std.specs.Borrow.{Bor}
 use Rattle.text.specs.declared.fault.Cause.{Cause}
 use Rattle.text.specs.declared.fault.Cause.TheVariants.{Missing, Extra, End}
 use Rattle.text.specs.declared.fault.FieldFault.{FieldFault}
-use Rattle.text.specs.declared.fields.FieldReader.{FieldReader}
-use Rattle.text.specs.declared.lines.LineReader.{LineReader}
 use Rattle.text.specs.Faults.{at_field, in_field}
-use Rattle.text.specs.Pieces.{pieces, left}
-
--- the fields that are not handed out yet
-abbrev pub fields_left : FieldReader → List (List ℕ)
-fields_left r = left 9 r.line.now r.at
-
--- the lines that are not handed out yet, and last what follows the last newline
-abbrev pub lines_left : LineReader → List (List ℕ)
-lines_left r = pieces 10 (drop r.at r.text.now)
 
 -- the next field is handed out; where there is none, it is missing
 abbrev pub Hands : List (List ℕ) → ℕ → Result (Bor (List ℕ)) FieldFault → List (List ℕ) → Type 0

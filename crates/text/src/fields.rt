@@ -3,10 +3,11 @@ ghost use Rattle.std.specs.Prelude.{◌≡◌};
 ghost use Rattle.std.specs.Fn.{FnOnceReturnsAt};
 ghost use Rattle.std.specs.List.{AllByRecursion};
 ghost use Rattle.text.specs.Pieces.{pieces, joined, Lacks};
-ghost use Rattle.text.specs.Readers.{fields_left, Hands, Reads, Ends};
+ghost use Rattle.text.specs.Readers.{Hands, Reads, Ends};
 
 use crate::fault::{Cause, FieldFault, in_field};
 use crate::find::find;
+use std::marker::Model;
 
 // The fields of a line, which single tabs part: at least one.
 #[derive(Drop)]
@@ -16,19 +17,29 @@ pub struct FieldReader<'a> {
     at: usize,
 }
 
+// It is seen as the fields that are not handed out yet.
+impl<'a> Model for FieldReader<'a> {
+    ghost use Rattle.std.specs.Prelude.{ℕ, List};
+    ghost use Rattle.text.specs.Pieces.{left};
+
+    ghost Value = { List (List ℕ) };
+
+    ghost view = { λ r. left 9 r.line.now r.at };
+}
+
 impl<'a> FieldReader<'a> {
     #[tactic(auto, using(crate::proofs::Joins::pieces_join, crate::proofs::Joins::pieces_lack))]
     pub fn new(line: &'a [u8]) -> FieldReader<'a>
-        ensures value { fields_left result ≡ pieces 9 line.now }
-        ensures joins { joined 9 (fields_left result) ≡ line.now }
-        ensures lacks { AllByRecursion (Lacks 9) (fields_left result) }
+        ensures value { result ≡ pieces 9 line.now }
+        ensures joins { joined 9 result ≡ line.now }
+        ensures lacks { AllByRecursion (Lacks 9) result }
     {
         FieldReader { line, at: 0 }
     }
 
     // The next field, which is the one with this number.
     pub fn field(&mut self, number: usize) -> Result<&'a [u8], FieldFault>
-        ensures { Hands (fields_left self.old) number result (fields_left self.new) }
+        ensures { Hands self.old number result self.new }
     {
         if self.at > self.line.len() {
             return Err(FieldFault {
@@ -49,7 +60,7 @@ impl<'a> FieldReader<'a> {
         read: F,
     ) -> Result<T, FieldFault>
         requires { F.IsAlwaysCallable read }
-        ensures { Reads (FnOnceReturnsAt F.FnOnce read) (fields_left self.old) number result (fields_left self.new) }
+        ensures { Reads (FnOnceReturnsAt F.FnOnce read) self.old number result self.new }
     {
         let field = self.field(number)?;
         in_field(read(field), number)
@@ -57,7 +68,7 @@ impl<'a> FieldReader<'a> {
 
     // That no field is left; the one with this number would be the next.
     pub fn end(&self, number: usize) -> Result<(), FieldFault>
-        ensures { Ends (fields_left self.now) number result }
+        ensures { Ends self.now number result }
     {
         if self.at <= self.line.len() {
             return Err(FieldFault {

@@ -1,7 +1,6 @@
-use Rattle.std.proofs.Common.{◌≡◌, ◌+◌, ◌∷◌, length, drop, Err, sym, ap, ◌∙◌, arith}
+use Rattle.std.proofs.Common.{◌≡◌, ◌+◌, ◌∷◌, length, Err, sym, ap, ◌∙◌, arith}
 use Rattle.std.proofs.lemmas.Result.{err_from_is_err_and}
-use Rattle.text.specs.Readers.{lines_left}
-use Rattle.text.proofs.Joins.{some_pieces, few_pieces}
+use Rattle.text.proofs.Joins.{few_pieces}
 use Rattle.text.proofs.Placing.{fault_on_line, handed_on_line}
 use Rattle.assembler.specs.Texts.{words_from, counted}
 use Rattle.assembler.proofs.Counting.{none_counted, one_line, bad_line, read_on_line}
@@ -14,21 +13,19 @@ loop-line-init c =
     (none_counted _ ∙ ap (λ ps. counted (words_from 1 ps)) all, omega (arith, ap length all, few_pieces 10 c.args.text.now, c.requires))
 
 -- the line that was handed out
-handed : (c : In-Some) → lines_left c.loop-line.lines ≡ c.in-Some.line.now ∷ lines_left c.line.new.self
-handed c = handed_on_line (lines_left c.loop-line.lines) (lines_left c.line.new.self) c.line.result (c.loop-line.count + 1) c.in_ok-line.field-0 c.in-Some.line c.line.ensures (sym c.on_line.ensures ∙ c.in_ok-line.was) c.in-Some.is
+handed : (c : In-Some) → c.loop-line.lines ≡ c.in-Some.line.now ∷ c.line.new.self
+handed c = handed_on_line _ _ _ _ _ _ c.line.ensures.advances (sym c.on_line.ensures ∙ c.in_ok-line.was) c.in-Some.is
 
 pub returns-in_err-on_line : goal.returns-in_err-on_line
 returns-in_err-on_line c =
     let p = err_from_is_err_and c.from_residual-in_err-on_line.result c.from_residual-in_err-on_line.ensures.1 in
-    let f = fault_on_line c.read_line.result (c.loop-line.count + 1) c.in_err-on_line.field-0.0 (sym c.on_line-in-Some.ensures ∙ c.in_err-on_line.was) in
-    let left = c.line.new.self in
+    let f = fault_on_line _ _ _ (sym c.on_line-in-Some.ensures ∙ c.in_err-on_line.was) in
     p.1 ∙ ap Err (p.2 ∙ sym f.2)
-    ∙ bad_line c.loop-line.count c.in-Some.line.now (lines_left c.loop-line.lines) (lines_left left) (some_pieces 10 (drop left.at left.text.now)) (handed (goal.at.returns-in_err-on_line c).In-Some) f.0 (sym f.1 ∙ c.read_line.ensures)
+    ∙ bad_line _ _ _ _ c.line.ensures.more (handed (goal.at.returns-in_err-on_line c).In-Some) f.0 (sym f.1 ∙ c.read_line.ensures)
     ∙ c.loop-line.invariant.0
 
 pub loop-line-preserved : goal.loop-line-preserved
 loop-line-preserved c =
-    let left = c.line.new.self in
     let cut = handed (goal.at.loop-line-preserved c).In-Some in
-    let read = read_on_line c.read_line.result (c.loop-line.count + 1) c.in_ok-on_line.field-0 c.in-Some.line.now c.read_line.ensures (sym c.on_line-in-Some.ensures ∙ c.in_ok-on_line.was) in
-    (one_line c.loop-line.count c.in-Some.line.now (lines_left c.loop-line.lines) (lines_left left) (some_pieces 10 (drop left.at left.text.now)) cut c.in_ok-on_line.field-0 read ∙ c.loop-line.invariant.0, omega (arith, c.loop-line.invariant.1, ap length cut))
+    let read = read_on_line _ _ _ c.in-Some.line.now c.read_line.ensures (sym c.on_line-in-Some.ensures ∙ c.in_ok-on_line.was) in
+    (one_line _ _ _ _ c.line.ensures.more cut _ read ∙ c.loop-line.invariant.0, omega (arith, c.loop-line.invariant.1, ap length cut))

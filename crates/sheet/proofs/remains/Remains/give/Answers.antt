@@ -1,8 +1,5 @@
 use Rattle.sheet.proofs.Sameness.{gives_same}
 use Rattle.sheet.proofs.remains.Remains.give.Goals as goal
 
-pub returns : goal.returns
-returns g c = record {
-  gives = c.read.ensures;
-  accepts = λ ms points short tells earns. gives_same _ _ _ c.args.sheet.now _ _ c.read.ensures (short, (ms, tells, earns));
-}
+pub returns-clause-accepts : goal.returns-clause-accepts
+returns-clause-accepts g c ms points short tells earns = gives_same _ _ _ c.args.sheet.now _ _ c.read.ensures (short, (ms, tells, earns))
