@@ -33,7 +33,7 @@ pub extern "C" fn guldresin_list(words: &[u8], out: &mut [u8], reply: &mut Reply
     *reply = Reply::from(list(words, out));
 }
 
-// Which console there is, and what all calls are given.
+// Which console there is, and what all calls are given. The flag is C's.
 #[derive(Clone, Copy)]
 struct Given<'a> {
     scripted: bool,

@@ -97,6 +97,7 @@ fn show(station: &Station, out: &mut [u8]) -> usize
     if out.len() != 256 {
         return 0;
     }
+    // `as_chunks_mut` says nothing of what the bytes end as, so the places are counted here.
     for number in 0..64u8 {
         let bytes = station.register(Register { number }).to_be_bytes();
         let at = 4 * number as usize;

@@ -22,6 +22,7 @@ impl<D: Readable> Remains<'_, D> {
         ensures { Score (processor self.now.registers.now self.now.memory.now) (D.Readable.sectors self.now.disk.now) self.now.ending (marks_from 1 (pieces 10 sheet.now)) result }
     {
         let mut lines = LineReader::new(sheet);
+        // A reader that answers with a Result is no Iterator, so the lines are counted here.
         let mut count = 0;
         let mut total = 0;
         while let Some(line) = on_line(lines.line(), count + 1)? {

@@ -1,4 +1,4 @@
-// Why a sitting is not opened, drawn from or given back to.
+// Why a sitting is not opened, drawn from or given back to: an enum for each call, so that it can answer its own numbers only.
 ghost use Rattle.std.specs.Prelude.{◌≡◌};
 ghost use Rattle.sitting.specs.Numbers.{open_refusal_number, draw_refusal_number, give_back_refusal_number};
 

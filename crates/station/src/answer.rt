@@ -21,6 +21,8 @@ pub struct Answer {
     pub stop: Stop,
 }
 
+// Each call has an enum of its own, so that it can answer its own refusals and numbers only.
+
 // Why a start is refused: the memory's length is not allowed, printed bytes are uncollected, or the disk has no sector.
 #[derive(Clone, Copy, PartialEq, Eq, Debug)]
 pub enum StartRefusal {

@@ -28,6 +28,7 @@ impl From<Obstacle> for Stop {
     }
 }
 
+// The four lent values stay parameters: a struct of four `&mut` would need, on each method, a clause that it still holds the same four.
 // Executes steps until all that were granted are executed, one lacks something, or one ends the station.
 fn go<D: Writable, C: Console>(
     registers: &mut Registers,
