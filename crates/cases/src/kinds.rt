@@ -1,8 +1,9 @@
 // Cases on other kinds of disk and console than an overlay and a keyboard.
 use crate::bench::{Bench, Call, sectors_with};
+use crate::case::Case;
 use crate::verdict::judge;
 use console::{Console, Keyboard, Script};
-use disk::{Image, ReadOnlyImage};
+use disk::{Image, ReadOnlyImage, Writable};
 use overlay::Overlay;
 
 // Sets the first byte from 512 on to 1, writes these 512 bytes to sector 1, and reads them back to 1024.
@@ -35,77 +36,73 @@ fn try_example(rt: &HostRuntime) -> anyhow::Result<()> {
     )
 }
 
-// A disk of 511 bytes has no sector.
-fn try_no_sector(
+// What calls answer on a disk and a console, with a memory of this length.
+fn try_calls<D: Writable, C: Console>(
     rt: &HostRuntime,
-    label: &'static str,
-    keyboard: &mut Keyboard,
-    calls: &[Call],
-    due: &'static str,
+    length: usize,
+    disk: &mut D,
+    console: &mut C,
+    case: &Case,
 ) -> anyhow::Result<()> {
-    let heap = rt.alloc();
-    let few = [0u8; 511];
-    let mut disk = Overlay::new(ReadOnlyImage::new(&few));
-    let said = Bench::new(heap, 512)?.make_all(&mut disk, keyboard, calls)?;
+    let Case(label, _, calls, due) = case;
+    let said = Bench::new(rt.alloc(), length)?.make_all(disk, console, calls)?;
     judge(rt, label, said.as_str(), due)
 }
+
+// Cases on a disk of 511 bytes, which has no sector.
+const NO_SECTOR: Case = Case(
+    "a disk with no sector gets 3",
+    "",
+    &[Call::Start, Call::Run(1)],
+    "refused 3, refused 4",
+);
+
+const REFUSALS_IN_ORDER: Case = Case(
+    "1 before 2 before 3",
+    "",
+    &[
+        Call::StartIn(511),
+        Call::Start,
+        Call::Collect(1),
+        Call::Start,
+    ],
+    "refused 1, refused 2, 1:A, refused 3",
+);
 
 fn try_no_sectors(rt: &HostRuntime) -> anyhow::Result<()> {
     let mut keyboard = Keyboard::new(rt.alloc())?;
-    try_no_sector(
-        rt,
-        "a disk with no sector gets 3",
-        &mut keyboard,
-        &[Call::Start, Call::Run(1)],
-        "refused 3, refused 4",
-    )?;
+    let few = [0u8; 511];
+    let mut disk = Overlay::new(ReadOnlyImage::new(&few));
+    try_calls(rt, 512, &mut disk, &mut keyboard, &NO_SECTOR)?;
     let _ = keyboard.put(b'A');
-    try_no_sector(
-        rt,
-        "1 before 2 before 3",
-        &mut keyboard,
-        &[
-            Call::StartIn(511),
-            Call::Start,
-            Call::Collect(1),
-            Call::Start,
-        ],
-        "refused 1, refused 2, 1:A, refused 3",
-    )
+    try_calls(rt, 512, &mut disk, &mut keyboard, &REFUSALS_IN_ORDER)
 }
 
-// A script with the text a and one paper place.
-fn try_script(
-    rt: &HostRuntime,
-    label: &'static str,
-    program: &str,
-    calls: &[Call],
-    due: &'static str,
-) -> anyhow::Result<()> {
-    let heap = rt.alloc();
-    let bytes = sectors_with(heap, program)?;
-    let mut paper = [0u8; 1];
-    let mut disk = Overlay::new(ReadOnlyImage::new(bytes.as_slice()));
-    let mut script = Script::new(b"a", &mut paper);
-    let said = Bench::new(heap, 2048)?.make_all(&mut disk, &mut script, calls)?;
-    judge(rt, label, said.as_str(), due)
-}
-
-fn try_scripts(rt: &HostRuntime) -> anyhow::Result<()> {
-    try_script(
-        rt,
+// Cases on a script with the text a and one paper place.
+const SCRIPTS: &[Case] = &[
+    Case(
         "a script's paper does not come back",
         "IN r1;OUT r1;OUT r1;HALT;",
         &[Call::Start, Call::Run(9), Call::Collect(9), Call::Run(9)],
         "started, 2 PAPER, 1:a, 0 PAPER",
-    )?;
-    try_script(
-        rt,
+    ),
+    Case(
         "a script has no slots",
         "IN r1;IN r1;HALT;",
         &[Call::Start, Call::Run(9), Call::Feed(b"b"), Call::Run(9)],
         "started, 1 INPUT, fed 0, 0 INPUT",
-    )
+    ),
+];
+
+fn try_scripts(rt: &HostRuntime) -> anyhow::Result<()> {
+    for case in SCRIPTS {
+        let bytes = sectors_with(rt.alloc(), case.1)?;
+        let mut paper = [0u8; 1];
+        let mut disk = Overlay::new(ReadOnlyImage::new(bytes.as_slice()));
+        let mut script = Script::new(b"a", &mut paper);
+        try_calls(rt, 2048, &mut disk, &mut script, case)?;
+    }
+    Ok(())
 }
 
 // The first byte of sector 1.
