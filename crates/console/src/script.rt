@@ -6,7 +6,7 @@ ghost use Rattle.std.proofs.Common.{rules};
 use crate::{Console, NoPaper, NoSlot};
 use std::ops::Range;
 
-// The printed bytes are a range of the paper, which is lent: a script has no heap. What stands before the range was pulled.
+// The printed bytes are a range of the lent paper, which has no heap behind it: before the range are bytes that were pulled.
 #[derive(Drop)]
 pub struct Script<'a> {
     waiting: &'a [u8],
