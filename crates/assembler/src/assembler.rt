@@ -13,7 +13,7 @@ use crate::writer::Writer;
 use text::fault::{Fault, on_line};
 use text::lines::{LineReader, count_newlines};
 
-// Why a text is not assembled.
+// Why a text is not assembled: an enum of this call alone, so that it can answer its own numbers only.
 #[derive(Clone, Copy, PartialEq, Eq, Debug)]
 pub enum AssembleRefusal {
     // over 65,536 bytes or over 3,328 newlines

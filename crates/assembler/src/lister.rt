@@ -9,7 +9,7 @@ ghost use Rattle.assembler.specs.Writes.{Appended};
 use crate::listing::write_line;
 use crate::writer::Writer;
 
-// Why words are not listed.
+// Why words are not listed: an enum of this call alone, too.
 #[derive(Clone, Copy, PartialEq, Eq, Debug)]
 pub enum ListRefusal {
     // over 13,312 bytes

@@ -12,7 +12,7 @@ use console::Console;
 use disk::Writable;
 use station::unit::Station;
 
-// Makes one call, whatever it asks for. What is lent stays parameters: a struct of several `&mut` would need a clause on each method that it still holds the same.
+// Makes one call, whatever it asks for: each kind takes other parts, so that closures would be no plainer. What is lent stays parameters: a struct of several `&mut` would need a clause on each method that it still holds the same.
 fn answer<D: Writable, C: Console>(
     station: &mut Station,
     memory: &mut [u8],

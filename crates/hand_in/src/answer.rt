@@ -7,7 +7,7 @@ use sitting::token::Sitting;
 use std::io;
 use text::lines::count_newlines;
 
-// The most words that a text can spell, and the longest listing of them, in bytes.
+// The most words that a text can spell, and the longest listing of them, in bytes: what fills such a buffer is lent it, and answers a count.
 const WORDS: usize = 13312;
 
 const LISTING: usize = 63232;

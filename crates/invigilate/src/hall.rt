@@ -100,6 +100,7 @@ impl Hall {
         }
     }
 
+    // Each call takes other parts of the hall, so that closures would be no plainer.
     fn answer<D: Writable, C: Console>(
         &mut self,
         rt: &HostRuntime,

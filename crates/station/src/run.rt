@@ -73,6 +73,7 @@ fn phase_after(length: usize, stop: Stop) -> Phase
 }
 
 impl Station {
+    // `run` promises this too, and a theorem: with one return, that is one answer.
     fn execute<D: Writable, C: Console>(
         &mut self,
         memory: &mut [u8],
