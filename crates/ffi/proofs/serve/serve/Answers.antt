@@ -17,14 +17,3 @@ loop-k-preserved g c =
       omega (arith, within),
     )
 
-pub returns-in_default : goal.returns-in_default
-returns-in_default g c =
-    let v = c.loop-k.invariant in
-    let past = ltb-false _ _ (sym c.in_default.ensures.lookup.0) in
-    rw set-get_or (c.loop-k.station, record { as_many = omega (arith, past); made = v.0; rest_same = v.1 })
-
-pub returns : goal.returns
-returns g c =
-    let v = c.loop-k.invariant in
-    let all : c.loop-k.k ≡ length c.args.replies.now = omega arith in
-    (c.loop-k.station, rw (← all) record { as_many = omega arith; made = v.0; rest_same = v.1 })

@@ -15,5 +15,3 @@ loop-number-preserved c =
     (λ k h. part_before out four (4 * k) (4 * k + 4) at (at + 4 - at) (omega arith) within ∙ c.loop-number.invariant k h)
     (between-put_mid at (at + 4 - at) out four (at + 4) within (ap length spelled ∙ omega arith) ∙ spelled ∙ ap (λ n. bytes (n ∷ [])) c.register.ensures)
 
-pub returns : goal.returns
-returns c = inl (c.if-out-ne256.false, refl, λ k h. c.loop-number.invariant k (omega arith))

@@ -14,14 +14,3 @@ loop-came-preserved g c =
       rest_more c.loop-came.buffer c.args.buffer.now c.loop-came.came c.in-Some.byte v.1,
     )
 
-pub returns-in-None : goal.returns-in-None
-returns-in-None g c = λ memory d.
-    let v = c.loop-came.invariant in
-    let e = c.in-None.ensures in
-    let same = set-get_or c.loop-came.buffer c.loop-came.came 0 in
-    rw same record {
-      pulled = record { pulls = subst (AllPulled _ _ (take c.loop-came.came c.loop-came.buffer)) (sym e.1) v.0; fits_room = simp length-take (omega arith); until = inr (ap (λ k. k.printed) e.1 ∙ e.0) };
-      fits_buffer = omega arith;
-      rest_same = v.1;
-      aside = record { processor_same = refl; disk_same = refl; phase_same = refl };
-    }

@@ -3,11 +3,5 @@ use Rattle.station.specs.Worlds.{started_with, has_ended}
 use Rattle.station.proofs.Running.{of_length}
 use Rattle.station.proofs.unit.Station.execute.Goals as goal
 
-pub returns-then-memory-length : goal.returns-then-memory-length
-returns-then-memory-length g c = ((c.in-Running.length, ap started_with c.in-Running.is, λ e. omega arith), refl)
-
-pub returns-then-memory-length-2 : goal.returns-then-memory-length-2
-returns-then-memory-length-2 g c = ((c.in-Ended.length, ap started_with c.in-Ended.is, λ e. omega arith), refl)
-
 pub returns-else-memory-length-2 : goal.returns-else-memory-length-2
 returns-else-memory-length-2 g c = has_ended (c.in-Ended.is ∙ of_length _ c.in-Ended.ending _ (omega arith)) refl refl refl
