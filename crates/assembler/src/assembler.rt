@@ -13,7 +13,7 @@ use crate::writer::Writer;
 use text::fault::{Fault, on_line};
 use text::lines::{LineReader, count_newlines};
 
-// Why a text is not assembled: an enum of this call alone, so that it can answer its own numbers only.
+// Why a text is not assembled: an enum of this call alone, so that it can answer its own numbers only; a number can't stand beside the fault, so it has a `match`.
 #[derive(Clone, Copy, PartialEq, Eq, Debug)]
 pub enum AssembleRefusal {
     // over 65,536 bytes or over 3,328 newlines
@@ -44,7 +44,7 @@ impl AssembleRefusal {
     }
 }
 
-// How many words `text` spells. A reader that answers with a Result is no Iterator, so the lines are counted here.
+// How many words `text` spells. The reader tells a missing newline as often as it is asked, so it is no Iterator that ends: the lines are counted here.
 fn count_words(text: &[u8]) -> Result<usize, Fault>
     requires { length text.now ≤ 65536 }
     ensures { result ≡ counted (words_from 1 (pieces 10 text.now)) }

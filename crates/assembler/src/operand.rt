@@ -17,8 +17,8 @@ fn read_register(field: &[u8]) -> Result<u32, Cause>
     if let Some(register) = Register::by_alias(field) {
         return Ok(u32::from(register.number));
     }
-    if field.len() > 0 && field[0] == b'r' {
-        if let Ok(number) = read_number(&field[1..field.len()], 63) {
+    if let [b'r', digits @ ..] = field {
+        if let Ok(number) = read_number(digits, 63) {
             return Ok(number);
         }
     }

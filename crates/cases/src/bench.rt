@@ -53,15 +53,6 @@ pub fn sectors_with(heap: Global, program: &str) -> anyhow::Result<Vec<u8>> {
     Ok(sectors)
 }
 
-// So many equal lines.
-fn repeated(heap: Global, line: &[u8], count: usize) -> anyhow::Result<Vec<u8>> {
-    let mut text = Vec::new(heap);
-    for _ in 0..count {
-        text.extend_from_slice(line)?;
-    }
-    Ok(text)
-}
-
 // A station with its memory, and what its calls answered so far, as text.
 #[derive(Drop)]
 pub struct Bench {
@@ -176,7 +167,7 @@ impl Bench {
                 made
             }
             Call::TallyLines(count) => {
-                let sheet = repeated(self.heap, b"E\tHALT\t1\n", count)?;
+                let sheet = b"E\tHALT\t1\n".repeat(self.heap, count)?;
                 self.tally(disk, sheet.as_slice())
             }
         }

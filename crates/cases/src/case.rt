@@ -43,30 +43,36 @@ fn answers(rt: &HostRuntime, program: &str, calls: &[Call]) -> anyhow::Result<St
 
 impl Trial for Case {
     fn label(&self) -> &'static str {
-        self.0
+        let Case(label, _, _, _) = self;
+        label
     }
 
     fn due(&self) -> &'static str {
-        self.3
+        let Case(_, _, _, due) = self;
+        due
     }
 
     fn answers(&self, rt: &HostRuntime) -> anyhow::Result<String> {
-        answers(rt, self.1, self.2)
+        let Case(_, program, calls, _) = self;
+        answers(rt, program, calls)
     }
 }
 
 impl Trial for Single {
     fn label(&self) -> &'static str {
-        self.0
+        let Single(label, _, _, _) = self;
+        label
     }
 
     fn due(&self) -> &'static str {
-        self.3
+        let Single(_, _, _, due) = self;
+        due
     }
 
     fn answers(&self, rt: &HostRuntime) -> anyhow::Result<String> {
-        let calls = [Call::Start, Call::Run(1000), Call::Tally(self.2)];
-        answers(rt, self.1, &calls)
+        let Single(_, program, sheet, _) = self;
+        let calls = [Call::Start, Call::Run(1000), Call::Tally(sheet)];
+        answers(rt, program, &calls)
     }
 }
 

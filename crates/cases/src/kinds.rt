@@ -10,7 +10,7 @@ use overlay::Overlay;
 const REWRITE: &str =
     "MOVI r1 512 0;MOVI r2 1 0;STOREB r2 r1 r0;WRITE r1 r2;MOVI r3 1024 0;READ r3 r2;HALT;";
 
-const REWRITE_CALLS: [Call; 3] = [
+const REWRITE_CALLS: &[Call] = &[
     Call::Start,
     Call::Run(9),
     Call::Tally("M 1024 1 1;D 1 0 1 1;D 1 1 0 1;"),
@@ -96,7 +96,8 @@ const SCRIPTS: &[Case] = &[
 
 fn try_scripts(rt: &HostRuntime) -> anyhow::Result<()> {
     for case in SCRIPTS {
-        let bytes = sectors_with(rt.alloc(), case.1)?;
+        let Case(_, program, _, _) = case;
+        let bytes = sectors_with(rt.alloc(), program)?;
         let mut paper = [0u8; 1];
         let mut disk = Overlay::new(ReadOnlyImage::new(bytes.as_slice()));
         let mut script = Script::new(b"a", &mut paper);
@@ -114,35 +115,30 @@ fn first_of_second(sectors: &[u8]) -> &'static str {
     }
 }
 
+// Rewrites a sector of a disk, and says what was answered.
+fn try_rewrite<D: Writable>(
+    rt: &HostRuntime,
+    label: &'static str,
+    disk: &mut D,
+) -> anyhow::Result<()> {
+    let mut keyboard = Keyboard::new(rt.alloc())?;
+    let case = Case(label, REWRITE, REWRITE_CALLS, REWRITE_DUE);
+    try_calls(rt, 2048, disk, &mut keyboard, &case)
+}
+
 // The overlay has the sector that was written, and the image below has its own.
 fn try_below(rt: &HostRuntime) -> anyhow::Result<()> {
-    let heap = rt.alloc();
-    let mut bytes = sectors_with(heap, REWRITE)?;
-    let mut keyboard = Keyboard::new(heap)?;
+    let mut bytes = sectors_with(rt.alloc(), REWRITE)?;
     let mut disk = Overlay::new(Image::new(bytes.as_mut_slice()));
-    let said = Bench::new(heap, 2048)?.make_all(&mut disk, &mut keyboard, &REWRITE_CALLS)?;
-    judge(
-        rt,
-        "an overlay answers what was written",
-        said.as_str(),
-        REWRITE_DUE,
-    )?;
+    try_rewrite(rt, "an overlay answers what was written", &mut disk)?;
     let left = first_of_second(bytes.as_slice());
     judge(rt, "the disk below an overlay is as it was", left, "7")
 }
 
 fn try_image(rt: &HostRuntime) -> anyhow::Result<()> {
-    let heap = rt.alloc();
-    let mut bytes = sectors_with(heap, REWRITE)?;
-    let mut keyboard = Keyboard::new(heap)?;
+    let mut bytes = sectors_with(rt.alloc(), REWRITE)?;
     let mut disk = Image::new(bytes.as_mut_slice());
-    let said = Bench::new(heap, 2048)?.make_all(&mut disk, &mut keyboard, &REWRITE_CALLS)?;
-    judge(
-        rt,
-        "an image answers what was written",
-        said.as_str(),
-        REWRITE_DUE,
-    )?;
+    try_rewrite(rt, "an image answers what was written", &mut disk)?;
     let left = first_of_second(bytes.as_slice());
     judge(rt, "a write to an image reaches its bytes", left, "1")
 }

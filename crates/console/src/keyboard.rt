@@ -1,5 +1,5 @@
 // A console for someone who types: bytes come in and go out while it stands.
-ghost use Rattle.std.specs.Prelude.{◌≡◌, IfOk};
+ghost use Rattle.std.specs.Prelude.{◌≡◌, ◌≤◌, length, IfOk};
 ghost use Rattle.console.specs.Kinds.{typed, starting_typed, typed_kind};
 ghost use Rattle.std.proofs.Common.{rules};
 
@@ -18,6 +18,8 @@ const PAPER: usize = 4096;
 pub struct Keyboard {
     waiting: Ring<SLOTS>,
     printed: Ring<PAPER>,
+    ghost few_waiting: { length waiting ≤ 256 },
+    ghost few_printed: { length printed ≤ 4096 },
 }
 
 impl Keyboard {

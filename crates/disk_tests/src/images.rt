@@ -68,8 +68,9 @@ fn only_a_part_of_one_sector_is_read_into(rt: HostRuntime) {
     let bytes = [9; 512];
     let disk = ReadOnlyImage::new(&bytes);
     let mut less = [0; 511];
-    assert!(rt; !read_part(&disk, &mut less, 0) && !read_part(&disk, &mut less, 1));
+    assert!(rt; read_part(&disk, &mut less, 0).is_none());
+    assert!(rt; read_part(&disk, &mut less, 1).is_none());
     assert!(rt; less[0] == 0);
     let mut one = [0; 512];
-    assert!(rt; read_part(&disk, &mut one, 0) && one[511] == 9);
+    assert!(rt; read_part(&disk, &mut one, 0).is_some() && one[511] == 9);
 }

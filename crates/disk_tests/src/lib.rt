@@ -25,7 +25,7 @@ pub fn copy_sector<A: Writable, B: Writable>(
 }
 
 // Reads a sector into the part of a buffer from a place on.
-pub fn read_at<D: Readable>(
+pub(crate) fn read_at<D: Readable>(
     disk: &D,
     buffer: &mut [u8],
     at: usize,
@@ -41,14 +41,12 @@ pub fn read_at<D: Readable>(
     disk.read(sector, block)
 }
 
-// Reads a sector into a part of any length, and says whether it did: only a part of 512 bytes is read into.
-pub fn read_part<D: Readable>(disk: &D, part: &mut [u8], sector: u32) -> bool
+// Reads a sector into a part of any length: only a part of 512 bytes is read into.
+pub fn read_part<D: Readable>(disk: &D, part: &mut [u8], sector: u32) -> Option<()>
     ensures { ReadsPart (D.Readable.sectors disk.now) sector part.old result part.new }
 {
-    let Some(block) = part.as_mut_array() else {
-        return false;
-    };
-    disk.read(sector, block).is_ok()
+    let block = part.as_mut_array()?;
+    disk.read(sector, block).ok()
 }
 
 // A read after a write gives the written bytes, on any writable disk.

@@ -70,6 +70,7 @@ fn on_disk<'a, 'b, D: Writable>(
 #[unsafe(no_mangle)]
 pub extern "C" fn guldresin_serve<'a>(
     heap: Global,
+    // C has flags for the two
     overlaid: bool,
     scripted: bool,
     bytes: &[u8],

@@ -12,7 +12,9 @@ use console::Console;
 use disk::Writable;
 use station::unit::Station;
 
-// Makes one call, whatever it asks for: each kind takes other parts, so that closures would be no plainer. What is lent stays parameters: a struct of several `&mut` would need a clause on each method that it still holds the same.
+// What is lent stays parameters in this crate: a struct of several `&mut` would need a clause on each method that it still holds the same.
+
+// Makes one call, whatever it asks for: each kind takes other parts, so that closures would be no plainer.
 fn answer<D: Writable, C: Console>(
     station: &mut Station,
     memory: &mut [u8],
@@ -52,6 +54,7 @@ pub(crate) fn serve<D: Writable, C: Console>(
 {
     let mut station = Station::new();
     let room = replies.len();
+    // A zip with `iter_mut` says nothing of what is written, so the call is looked up.
     for (k, reply) in replies.iter_mut().enumerate() {
         let Some(call) = calls.get(k) else {
             return k;

@@ -30,7 +30,7 @@ pub(crate) fn start<D: Readable, C: Console>(
 ) -> Reply
     ensures { (d : Disk) (output : List ℕ) → d.sectors ≡ D.Readable.sectors disk.now → Started call (bench station.old memory.old d (C.Console.meaning console.now) output) result (bench station.new memory.new d (C.Console.meaning console.now) output) }
 {
-    let end = call.memory.min(memory.len());
+    let end = call.named(memory.len());
     Reply::from(station.start(&mut memory[..end], disk, console))
 }
 
@@ -44,7 +44,7 @@ pub(crate) fn run<D: Writable, C: Console>(
 ) -> Reply
     ensures { (output : List ℕ) → Ran C.Console.kind call (bench station.old memory.old (disk_of D.Readable D.Writable.own disk.old) (C.Console.meaning console.old) output) result (bench station.new memory.new (disk_of D.Readable D.Writable.own disk.new) (C.Console.meaning console.new) output) }
 {
-    let end = call.memory.min(memory.len());
+    let end = call.named(memory.len());
     Reply::from(station.run(&mut memory[..end], disk, console, call.number))
 }
 
@@ -78,7 +78,7 @@ pub(crate) fn tally<D: Readable>(
 ) -> Reply
     ensures { (d : Disk) (k : Meaning) (output : List ℕ) → d.sectors ≡ D.Readable.sectors disk.now → Tallied call «data».now (bench station.now memory.now d k output) result (bench station.now memory.now d k output) }
 {
-    let end = call.memory.min(memory.len());
+    let end = call.named(memory.len());
     Reply::from(station.tally(&memory[..end], disk, part(data, call)))
 }
 

@@ -21,7 +21,7 @@ pub struct Report {
     pub points: Result<u32, TallyRefusal>,
 }
 
-// Makes each call of a station, on whatever disk and console: what it did is a history.
+// Makes each call of a station, on whatever disk and console: what it did is a history. What is lent to the calls stays parameters, as there.
 pub fn sit<D: Writable, C: Console>(
     station: &mut Station,
     memory: &mut [u8],

@@ -1,6 +1,7 @@
 // The sitting at the desk: at most one is open, and none is lost.
 use crate::say::{say_none, say_refused};
 use sitting::calls::open;
+use sitting::refusal::{DrawRefusal, GiveBackRefusal};
 use sitting::token::{Settled, Sitting, Voided};
 use std::io;
 
@@ -32,33 +33,37 @@ impl Desk {
         }
     }
 
-    // What a call on the open sitting answers: nothing, or the number of its refusal.
-    fn change<F: FnOnce(&mut Sitting) -> Result<(), u8> + Drop>(
-        &mut self,
-        rt: &HostRuntime,
-        call: F,
-    ) -> io::Result<()>
-        requires { F.IsAlwaysCallable call }
+    // Makes a call on the open sitting; `number` tells the number of its refusal.
+    fn change<E: Drop, F, N>(&mut self, rt: &HostRuntime, call: F, number: N) -> io::Result<()>
+    where
+        F: FnOnce(&mut Sitting) -> Result<(), E> + Drop,
+        N: FnOnce(E) -> u8 + Drop,
+        requires call { F.IsAlwaysCallable call }
+        requires number { N.IsAlwaysCallable number }
     {
         match &mut self.sitting {
             Some(sitting) => match call(sitting) {
                 Ok(()) => println!(rt; "ok"),
-                Err(number) => say_refused(rt, number),
+                Err(refusal) => say_refused(rt, number(refusal)),
             },
             None => say_none(rt),
         }
     }
 
     pub(crate) fn draw(&mut self, rt: &HostRuntime, count: u32) -> io::Result<()> {
-        self.change(rt, |sitting: &mut Sitting| {
-            sitting.draw(count).map_err(|refusal| refusal.number())
-        })
+        self.change(
+            rt,
+            |sitting: &mut Sitting| sitting.draw(count),
+            DrawRefusal::number,
+        )
     }
 
     pub(crate) fn give_back(&mut self, rt: &HostRuntime, count: u32) -> io::Result<()> {
-        self.change(rt, |sitting: &mut Sitting| {
-            sitting.give_back(count).map_err(|refusal| refusal.number())
-        })
+        self.change(
+            rt,
+            |sitting: &mut Sitting| sitting.give_back(count),
+            GiveBackRefusal::number,
+        )
     }
 
     pub(crate) fn settle(&mut self, rt: &HostRuntime, points: u32) -> io::Result<()> {

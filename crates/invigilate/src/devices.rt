@@ -43,21 +43,32 @@ fn console_of(rt: &HostRuntime, line: &[u8]) -> io::Result<Option<ConsoleKind>> 
     }
 }
 
-// The first disk that a line names and that can be read.
-pub(crate) fn named_disk(
+// What the first line names that names something which can be had.
+fn first_named<T: Drop, F: Fn(&HostRuntime, &[u8]) -> io::Result<Option<T>> + Drop>(
     rt: &HostRuntime,
     lines: &mut Lines,
-) -> io::Result<Option<(DiskKind, Vec<u8>)>> {
+    named_by: F,
+) -> io::Result<Option<T>>
+    requires { F.IsAlwaysCallable named_by }
+{
     for line in lines.by_ref() {
         let line = line?;
         if asks_nothing(line.as_slice()) {
             continue;
         }
-        if let Some(named) = disk_of(rt, line.as_slice())? {
+        if let Some(named) = named_by(rt, line.as_slice())? {
             return Ok(Some(named));
         }
     }
     Ok(None)
+}
+
+// The first disk that a line names and that can be read.
+pub(crate) fn named_disk(
+    rt: &HostRuntime,
+    lines: &mut Lines,
+) -> io::Result<Option<(DiskKind, Vec<u8>)>> {
+    first_named(rt, lines, disk_of)
 }
 
 // The first console that a line names and that can be had.
@@ -65,14 +76,5 @@ pub(crate) fn named_console(
     rt: &HostRuntime,
     lines: &mut Lines,
 ) -> io::Result<Option<ConsoleKind>> {
-    for line in lines.by_ref() {
-        let line = line?;
-        if asks_nothing(line.as_slice()) {
-            continue;
-        }
-        if let Some(named) = console_of(rt, line.as_slice())? {
-            return Ok(Some(named));
-        }
-    }
-    Ok(None)
+    first_named(rt, lines, console_of)
 }

@@ -59,8 +59,9 @@ impl Hall {
 
     // The bytes are hexadecimal, two digits each.
     fn feed<C: Console>(&self, rt: &HostRuntime, console: &mut C, digits: &[u8]) -> io::Result<()> {
-        match hex::decode(rt.alloc(), digits) {
-            Ok(bytes) => println!(rt; "{}", self.station.feed(console, bytes.as_slice())),
+        let mut bytes = vec![in rt.alloc(); 0u8; digits.len() / 2]?;
+        match hex::decode_to_slice(digits, bytes.as_mut_slice()) {
+            Ok(()) => println!(rt; "{}", self.station.feed(console, bytes.as_slice())),
             Err(_) => say_unknown(rt),
         }
     }

@@ -5,7 +5,7 @@ ghost use Rattle.processor.specs.Words.{written, moved_on};
 use std::marker::Model;
 use u5::operand::Register;
 
-// The 64 registers, an array by value. r0 is always 0, and r63 is the address of the next instruction.
+// The 64 registers, by rule an array by value. r0 is always 0, and r63 is the address of the next instruction.
 #[derive(Clone, Copy)]
 pub struct Registers {
     words: [u32; 64],
@@ -32,7 +32,8 @@ impl Registers {
     }
 
     pub fn get(&self, r: Register) -> u32
-        ensures { result ≡ slice_index self.now r.number }
+        ensures value { result ≡ slice_index self.now r.number }
+        ensures zero { slice_index self.now 0 ≡ 0 }
     {
         self.words[r.number as usize]
     }

@@ -3,7 +3,7 @@ use crate::width::Width;
 use u5::operand::Register;
 
 // What is left to do of an instruction, once all that it reads was read.
-#[derive(Clone, Copy)]
+#[derive(Clone, Copy, PartialEq, Eq, Debug)]
 pub enum Request {
     Passes,
     Sets { register: Register, value: u32 },

@@ -11,7 +11,7 @@ use crate::request::Request;
 use crate::width::Width;
 
 impl Registers {
-    // Decides the next instruction, and does it as far as no device is asked.
+    // Decides the next instruction, and does it as far as no device is asked. `step` promises this and two laws besides, and has one return for them.
     fn attempt(&mut self, memory: &mut [u8]) -> Result<Outcome, Ending>
         ensures { Comes (processor self.old memory.old) result (processor self.new memory.new) }
     {

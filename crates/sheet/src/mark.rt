@@ -6,7 +6,7 @@ use processor::ending::Ending;
 use u5::operand::Register;
 
 // A place, the value that is looked for there, and the points that it is worth: a register's word, a byte of memory, a byte of a sector, or how the station ended.
-#[derive(Clone, Copy)]
+#[derive(Clone, Copy, PartialEq, Eq, Debug)]
 pub enum Mark {
     Word {
         register: Register,

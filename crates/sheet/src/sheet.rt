@@ -22,7 +22,7 @@ impl<D: Readable> Remains<'_, D> {
         ensures { Score (processor self.now.registers.now self.now.memory.now) (D.Readable.sectors self.now.disk.now) self.now.ending (marks_from 1 (pieces 10 sheet.now)) result }
     {
         let mut lines = LineReader::new(sheet);
-        // A reader that answers with a Result is no Iterator, so the lines are counted here.
+        // The reader tells a missing newline as often as it is asked, so it is no Iterator that ends: the lines are counted here.
         let mut count = 0;
         let mut total = 0;
         while let Some(line) = on_line(lines.line(), count + 1)? {
@@ -41,6 +41,7 @@ impl<D: Readable> Remains<'_, D> {
         self.read(sheet)
     }
 
+    // `give` promises this and a theorem besides, and has one return for it.
     fn read(&self, sheet: &[u8]) -> Result<u32, SheetRefusal>
         ensures { Gives (processor self.now.registers.now self.now.memory.now) (D.Readable.sectors self.now.disk.now) self.now.ending sheet.now result }
     {

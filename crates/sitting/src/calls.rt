@@ -1,5 +1,5 @@
 // What can be done with a sitting.
-ghost use Rattle.std.specs.Prelude.{◌≡◌, ℕ};
+ghost use Rattle.std.specs.Prelude.{◌≡◌, ◌+◌, ℕ};
 ghost use Rattle.sitting.specs.Accounts.{Opens, Draws, GivesBack};
 ghost use Rattle.sitting.specs.Histories.{Counts};
 
@@ -51,7 +51,8 @@ impl Sitting {
 
     // How many instructions are left to draw.
     pub fn left(&self) -> u32
-        ensures { result ≡ self.now.left }
+        ensures value { result ≡ self.now.left }
+        ensures balanced { self.now.used + self.now.left ≡ self.now.grant }
     {
         self.grant - self.used
     }

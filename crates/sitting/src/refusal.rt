@@ -1,4 +1,4 @@
-// Why a sitting is not opened, drawn from or given back to: an enum for each call, so that it can answer its own numbers only.
+// Why a sitting is not opened, drawn from or given back to: an enum for each call, so that it can answer its own numbers only, by a `match` as where an enum holds a fault.
 ghost use Rattle.std.specs.Prelude.{◌≡◌};
 ghost use Rattle.sitting.specs.Numbers.{open_refusal_number, draw_refusal_number, give_back_refusal_number};
 

@@ -2,7 +2,7 @@
 #![tactic(auto)]
 
 use sitting::calls::open;
-use sitting::refusal::OpenRefusal;
+use sitting::refusal::{DrawRefusal, GiveBackRefusal, OpenRefusal};
 use sitting::token::{Settled, Sitting, Voided};
 use std::io;
 
@@ -18,40 +18,56 @@ fn two_sittings() -> Result<(Settled, Voided), OpenRefusal> {
     Ok((settled, voided))
 }
 
-fn say_draw(rt: &HostRuntime, sitting: &mut Sitting, count: u32) -> io::Result<()> {
-    match sitting.draw(count) {
-        Ok(()) => {
-            let left = sitting.left();
-            println!(rt; "draw {count}: {left} left")
-        }
-        Err(refusal) => {
-            let number = refusal.number();
-            println!(rt; "draw {count}: refused {number}")
-        }
+// Makes a call, and says how many are left then, or the number of its refusal.
+fn say<E: Drop, F, N>(
+    rt: &HostRuntime,
+    sitting: &mut Sitting,
+    name: &str,
+    call: F,
+    number: N,
+) -> io::Result<()>
+where
+    F: FnOnce(&mut Sitting) -> Result<(), E> + Drop,
+    N: FnOnce(E) -> u8 + Drop,
+    requires call { F.IsAlwaysCallable call }
+    requires number { N.IsAlwaysCallable number }
+{
+    match call(sitting) {
+        Ok(()) => println!(rt; "{name}: {} left", sitting.left()),
+        Err(refusal) => println!(rt; "{name}: refused {}", number(refusal)),
     }
 }
 
-fn say_give_back(rt: &HostRuntime, sitting: &mut Sitting, count: u32) -> io::Result<()> {
-    match sitting.give_back(count) {
-        Ok(()) => {
-            let left = sitting.left();
-            println!(rt; "give back {count}: {left} left")
-        }
-        Err(refusal) => {
-            let number = refusal.number();
-            println!(rt; "give back {count}: refused {number}")
-        }
-    }
+fn draw(rt: &HostRuntime, sitting: &mut Sitting, count: u32) -> io::Result<()> {
+    let name = format!(in rt.alloc(); "draw {count}")?;
+    say(
+        rt,
+        sitting,
+        name.as_str(),
+        |s: &mut Sitting| s.draw(count),
+        DrawRefusal::number,
+    )
+}
+
+fn give_back(rt: &HostRuntime, sitting: &mut Sitting, count: u32) -> io::Result<()> {
+    let name = format!(in rt.alloc(); "give back {count}")?;
+    say(
+        rt,
+        sitting,
+        name.as_str(),
+        |s: &mut Sitting| s.give_back(count),
+        GiveBackRefusal::number,
+    )
 }
 
 fn use_up(rt: &HostRuntime, sitting: &mut Sitting, candidate: u16, grant: u32) -> io::Result<()> {
     println!(rt; "open {candidate} {grant}")?;
-    say_draw(rt, sitting, grant)?;
-    say_draw(rt, sitting, 1)?;
-    say_draw(rt, sitting, 0)?;
-    say_give_back(rt, sitting, grant)?;
-    say_give_back(rt, sitting, 1)?;
-    say_give_back(rt, sitting, 0)
+    draw(rt, sitting, grant)?;
+    draw(rt, sitting, 1)?;
+    draw(rt, sitting, 0)?;
+    give_back(rt, sitting, grant)?;
+    give_back(rt, sitting, 1)?;
+    give_back(rt, sitting, 0)
 }
 
 // Opens a sitting, draws all and one more, gives back all and one more, and voids it.
@@ -61,13 +77,9 @@ fn to_the_edge(rt: &HostRuntime, candidate: u16, grant: u32) -> io::Result<()> {
             let said = use_up(rt, &mut sitting, candidate, grant);
             let record = sitting.void();
             said?;
-            let used = record.used;
-            println!(rt; "void: {used} used")
+            println!(rt; "void: {} used", record.used)
         }
-        Err(refusal) => {
-            let number = refusal.number();
-            println!(rt; "open {candidate} {grant}: refused {number}")
-        }
+        Err(refusal) => println!(rt; "open {candidate} {grant}: refused {}", refusal.number()),
     }
 }
 
@@ -79,17 +91,15 @@ fn main(rt: HostRuntime) -> io::Result<()> {
     to_the_edge(&rt, 65535, 4294967295)?;
     match two_sittings() {
         Ok((settled, voided)) => {
-            let candidate = settled.candidate;
-            let used = settled.used;
-            let points = settled.points;
+            let Settled {
+                candidate,
+                used,
+                points,
+            } = settled;
             println!(rt; "settled: candidate {candidate}, {used} used, {points} points")?;
-            let candidate = voided.candidate;
-            let used = voided.used;
+            let Voided { candidate, used } = voided;
             println!(rt; "voided: candidate {candidate}, {used} used")
         }
-        Err(refusal) => {
-            let number = refusal.number();
-            println!(rt; "refused {number}")
-        }
+        Err(refusal) => println!(rt; "refused {}", refusal.number()),
     }
 }

@@ -1,7 +1,8 @@
 -- Machines that differ in one part.
-use Rattle.std.proofs.Common.{◌≡◌, ℕ, ◌+◌, ◌-◌, ◌<◌, ◌≤◌, List, ◌++◌, length, take, drop, Err, Result, sym, refl, ap, ap₂, ◌∙◌, subst, arith}
+use Rattle.std.proofs.Common.{◌≡◌, ℕ, ◌+◌, ◌-◌, ◌<◌, ◌≤◌, List, ◌++◌, length, take, drop, Err, Result, sym, refl, ap, ap₂, ◌∙◌, subst, arith, length-drop}
 use borrow.Rule.Slice.PartMut.{put_mid}
-use Rattle.std.proofs.lemmas.List.{take-append-drop}
+use Rattle.std.specs.List.{between}
+use Rattle.std.proofs.lemmas.List.{take-append-drop, take_all}
 use Rattle.std.proofs.lemmas.Bool.{cond-true, cond-false, le-leb, lt-leb}
 use Rattle.processor.specs.declared.ending.Ending.TheVariants.{Sector}
 use Rattle.processor.specs.Machine.{Processor, Action, ends, writes}
@@ -38,6 +39,14 @@ unwritten kind p q d d' k sector block refusal.NoKeep h = (no_keep (there _ _ _ 
 
 pub of_block : (d d' : Disk) (sector : ℕ) (block block' : List ℕ) → block ≡ block' → Written d sector block d' → Written d sector block' d'
 of_block d d' sector block block' is w = subst (λ (x : List ℕ). Written d sector x d') is w
+
+-- the first 512 bytes behind a place
+pub first_bytes : (memory block : List ℕ) (at : ℕ) → block ≡ take 512 (take (length memory - at) (drop at memory)) → block ≡ between at (at + 512) memory
+first_bytes memory block at is =
+    let width : 512 ≡ at + 512 - at = omega arith in
+    is
+    ∙ ap (take 512) (take_all (length memory - at) (drop at memory) (omega (arith, length-drop at memory)))
+    ∙ ap (λ n. take n (drop at memory)) width
 
 -- memory of which the 512 bytes behind a place were lent
 pub lent : (memory front rest new : List ℕ) (at : ℕ) → front ≡ take at memory → rest ≡ drop at memory → front ++ (new ++ drop 512 rest) ≡ put_mid at 512 memory new

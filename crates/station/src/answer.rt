@@ -21,7 +21,7 @@ pub struct Answer {
     pub stop: Stop,
 }
 
-// Each call has an enum of its own, so that it can answer its own refusals and numbers only.
+// Each call has an enum of its own, so that it can answer its own refusals only; a number can't stand beside the fault that one holds, so each has a `match`.
 
 // Why a start is refused: the memory's length is not allowed, printed bytes are uncollected, or the disk has no sector.
 #[derive(Clone, Copy, PartialEq, Eq, Debug)]

@@ -4,14 +4,14 @@ use disk::{NoSuchSector, WriteRefusal};
 use processor::ending::{Ending, Want};
 
 // What an executed instruction leaves: a processor that goes on, or one that halted.
-#[derive(Clone, Copy)]
+#[derive(Clone, Copy, PartialEq, Eq, Debug)]
 pub(crate) enum Executed {
     Going,
     Halted,
 }
 
 // Why an instruction is not executed: it lacks something, or it can't be done. Then nothing has changed.
-#[derive(Clone, Copy)]
+#[derive(Clone, Copy, PartialEq, Eq, Debug)]
 pub(crate) enum Obstacle {
     Lacking(Want),
     Impossible(Ending),

@@ -1,4 +1,5 @@
 // Steps: what an instruction asks, the disk and the console do. The registers are written last.
+// What is lent stays parameters: a struct of several `&mut` would need a clause on each method that it still holds the same.
 ghost use Rattle.std.specs.Prelude.{◌≡◌, ℕ, ◌+◌, ◌≤◌, length};
 ghost use Rattle.processor.specs.Requests.{taking, printing, reading, writing};
 ghost use Rattle.station.specs.Views.{AsksConsole, AsksDisk, Attempts};
@@ -73,9 +74,10 @@ fn write<D: Writable>(
     requires { at + 512 ≤ length memory.now }
     ensures { AsksDisk D.Readable D.Writable.own (writing at sector) registers.old memory.now disk.old result registers.new memory.now disk.new }
 {
-    let mut block = [0; 512];
-    block.copy_from_slice(&memory[at..at + 512]);
-    disk.write(sector, block)?;
+    let Some(block) = memory[at..].first_chunk() else {
+        unreachable!()
+    };
+    disk.write(sector, *block)?;
     registers.advance();
     Ok(Executed::Going)
 }

@@ -7,7 +7,8 @@ use u5::operand::Register;
 impl Station {
     // What a register holds.
     pub fn register(&self, register: Register) -> u32
-        ensures { result ≡ slice_index self.now.registers register.number }
+        ensures value { result ≡ slice_index self.now.registers register.number }
+        ensures zero { slice_index self.now.registers 0 ≡ 0 }
     {
         self.registers.get(register)
     }

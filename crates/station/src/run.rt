@@ -1,4 +1,4 @@
-// Runs.
+// Runs. What is lent stays parameters, as in the steps.
 ghost use Rattle.std.specs.Prelude.{◌≡◌, ◌<◌, IfOk};
 ghost use Rattle.station.specs.Histories.{CutShort};
 ghost use Rattle.station.specs.Machines.{Goes};
@@ -28,7 +28,6 @@ impl From<Obstacle> for Stop {
     }
 }
 
-// The four lent values stay parameters: a struct of four `&mut` would need, on each method, a clause that it still holds the same four.
 // Executes steps until all that were granted are executed, one lacks something, or one ends the station.
 fn go<D: Writable, C: Console>(
     registers: &mut Registers,
@@ -73,7 +72,7 @@ fn phase_after(length: usize, stop: Stop) -> Phase
 }
 
 impl Station {
-    // `run` promises this too, and a theorem: with one return, that is one answer.
+    // `run` promises this and a theorem besides. It has one return, so that the theorem is proved once; here it would be once a return.
     fn execute<D: Writable, C: Console>(
         &mut self,
         memory: &mut [u8],

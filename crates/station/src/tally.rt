@@ -24,7 +24,7 @@ impl From<SheetRefusal> for TallyRefusal {
 }
 
 impl Station {
-    // The points that a sheet gives to an ended station. `tally` promises this too, and a theorem: with one return, that is one answer.
+    // The points that a sheet gives to an ended station. `tally` promises this and a theorem besides, and has one return for it.
     fn mark<D: Readable>(&self, memory: &[u8], disk: &D, sheet: &[u8]) -> Result<u32, TallyRefusal>
         ensures { Tallies (processor self.now.registers memory.now) self.now.phase (D.Readable.sectors disk.now) sheet.now result }
     {

@@ -9,7 +9,7 @@ use crate::fault::{Cause, FieldFault, in_field};
 use crate::find::find;
 use std::marker::Model;
 
-// The fields of a line, which single tabs part: at least one. They are known by their place, so the line stays whole.
+// The fields of a line, which single tabs part: at least one. By rule they are parts of the line, known by their place.
 #[derive(Drop)]
 pub struct FieldReader<'a> {
     line: &'a [u8],

@@ -8,7 +8,7 @@ use crate::fault::{Cause, FieldFault};
 use crate::find::find;
 use std::marker::Model;
 
-// The lines of a text, each ended by a newline, known by their place. Fields are parted and lines are ended, so that the two readers answer differently.
+// The lines of a text, each ended by a newline: by rule parts of the text, known by their place. Fields are parted and lines are ended, so that the two readers answer differently.
 #[derive(Drop)]
 pub struct LineReader<'a> {
     text: &'a [u8],

@@ -219,16 +219,6 @@ fn compare_texts(rt: &HostRuntime) -> anyhow::Result<()> {
     compare_case(rt, &EVERY_OPERATION)
 }
 
-// A text of so many equal lines, and then some bytes.
-fn repeated(heap: Global, line: &[u8], times: usize, rest: &[u8]) -> anyhow::Result<Vec<u8>> {
-    let mut text = Vec::new(heap);
-    for _ in 0..times {
-        text.extend_from_slice(line)?;
-    }
-    text.extend_from_slice(rest)?;
-    Ok(text)
-}
-
 // What is answered of a large text, without its words.
 fn compare_large(
     rt: &HostRuntime,
@@ -248,13 +238,15 @@ fn compare_large(
 
 fn compare_limits(rt: &HostRuntime) -> anyhow::Result<()> {
     let heap = rt.alloc();
-    let full = repeated(heap, b"HALT\n", 3328, b"")?;
+    let full = b"HALT\n".repeat(heap, 3328)?;
     compare_large(rt, "3328 lines", full.as_slice(), 13312, "13312 bytes")?;
-    let over = repeated(heap, b"HALT\n", 3329, b"")?;
+    let over = b"HALT\n".repeat(heap, 3329)?;
     compare_large(rt, "3329 lines", over.as_slice(), 13316, "7")?;
-    let short = repeated(heap, b"7", 65535, b"\n")?;
+    let mut short = b"7".repeat(heap, 65535)?;
+    short.push(b'\n')?;
     compare_large(rt, "65536 bytes", short.as_slice(), 4, "8 1 1 SPELLING")?;
-    let long = repeated(heap, b"7", 65536, b"\n")?;
+    let mut long = b"7".repeat(heap, 65536)?;
+    long.push(b'\n')?;
     compare_large(rt, "65537 bytes", long.as_slice(), 4, "7")?;
     compare_large(
         rt,
@@ -324,8 +316,8 @@ fn compare_listings(rt: &HostRuntime) -> anyhow::Result<()> {
         "9",
     )?;
     compare_listing(rt, "no words, no text", b"", 0, "")?;
-    let full = repeated(heap, b"\xf8\x00\x00\x00", 3328, b"")?;
-    let lines = repeated(heap, b"HALT\n", 3328, b"")?;
+    let full = b"\xf8\x00\x00\x00".repeat(heap, 3328)?;
+    let lines = b"HALT\n".repeat(heap, 3328)?;
     compare_listing(
         rt,
         "one byte too little for 3328 words",
@@ -333,7 +325,7 @@ fn compare_listings(rt: &HostRuntime) -> anyhow::Result<()> {
         63231,
         "9",
     )?;
-    let over = repeated(heap, b"\xf8\x00\x00\x00", 3329, b"")?;
+    let over = b"\xf8\x00\x00\x00".repeat(heap, 3329)?;
     compare_listing(rt, "3329 words are too many", over.as_slice(), 63251, "7")?;
     let mut out = vec![in heap; 0u8; 63232]?;
     let count = list(full.as_slice(), out.as_mut_slice()).unwrap_or(0);

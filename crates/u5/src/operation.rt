@@ -158,7 +158,7 @@ impl Operation {
         OPERATIONS.iter().copied().find(|o| field == o.spelling())
     }
 
-    // The operation with this opcode.
+    // The operation with this opcode: a `match`, so that decoding is a jump and not a search.
     pub fn coded(code: u32) -> Option<Operation>
         ensures { result ≡ coded code }
     {

@@ -1,4 +1,4 @@
-use Rattle.std.proofs.Common.{◌≡◌, ◌+◌, ◌-◌, ◌*◌, ◌≤◌, [], ◌∷◌, length, refl, ap, ◌∙◌, inl, arith, below_more}
+use Rattle.std.proofs.Common.{◌≡◌, ◌+◌, ◌-◌, ◌*◌, ◌≤◌, [], ◌∷◌, length, ap, ◌∙◌, arith, below_more}
 use Rattle.std.proofs.lemmas.Slice.{between-put_mid}
 use Rattle.assembler.specs.Texts.{bytes}
 use Rattle.ffi.proofs.Parting.{part_before}
@@ -13,5 +13,5 @@ loop-number-preserved c =
     let spelled : four ≡ bytes (c.register.result ∷ []) = c.copy_from_slice.ensures.after ∙ c.to_be_bytes-bytes.ensures in
     below_more _ _
     (λ k h. part_before out four (4 * k) (4 * k + 4) at (at + 4 - at) (omega arith) within ∙ c.loop-number.invariant k h)
-    (between-put_mid at (at + 4 - at) out four (at + 4) within (ap length spelled ∙ omega arith) ∙ spelled ∙ ap (λ n. bytes (n ∷ [])) c.register.ensures)
+    (between-put_mid at (at + 4 - at) out four (at + 4) within (ap length spelled ∙ omega arith) ∙ spelled ∙ ap (λ n. bytes (n ∷ [])) c.register.ensures.value)
 

@@ -10,12 +10,12 @@ returns g c d k output same =
     let s = c.args.station.now in
     let m = c.args.memory.now in
     let size = c.args.call.memory in
-    let end = c.min-end.result in
+    let end = c.named-end.result in
     let given = c.part.result.now in
     let result = c.tally.result in
     let below = g.D.Readable.sectors c.args.disk.now in
     let named : Tallies (processor s.registers (take size m)) s.phase below given result =
-    subst (λ l. Tallies (processor s.registers l) s.phase below given result) (front_is m size end c.min-end.ensures) c.tally.ensures.tallies
+    subst (λ l. Tallies (processor s.registers l) s.phase below given result) (front_is m size end c.named-end.ensures) c.tally.ensures.tallies
     in
     record {
       result = result;

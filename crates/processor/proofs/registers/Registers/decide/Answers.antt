@@ -11,7 +11,7 @@ pub returns-then-at-ne0 : goal.returns-then-at-ne0
 returns-then-at-ne0 c =
     let p = processor c.args.self.now c.args.memory.now in
     record {
-      as_asked = λ ss. not_fetched p ss (cannot p c.get-at.result c.get-at.ensures
+      as_asked = λ ss. not_fetched p ss (cannot p c.get-at.result c.get-at.ensures.value
           (elim c.then-at-ne0.branch [ then-at-ne0-via-then-at-ne0 w ↦ inl (λ e. omega arith) | then-at-ne0-via-else-at-ne0+then-at-memory w ↦ inr (omega arith) ]));
       in_memory = tt;
     }
@@ -23,7 +23,7 @@ returns-in_err-instruction c =
     let none : c.decode.result ≡ None = grind (arith, common_steps, c.in_err-instruction.ensures) in
     let code : c.in_err-instruction.field-0.0 ≡ Code = grind (arith, common_steps, c.in_err-instruction.ensures) in
     subst (Decides p) (sym (gone.1 ∙ ap Err (gone.2 ∙ code))) (record {
-      as_asked = decodes_to p c.get-at.result c.get-at.ensures _ c.load-word.result (omega arith) (omega arith) c.load-word.ensures (sym none ∙ c.decode.ensures.value);
+      as_asked = decodes_to p c.get-at.result c.get-at.ensures.value _ c.load-word.result (omega arith) (omega arith) c.load-word.ensures (sym none ∙ c.decode.ensures.value);
       in_memory = tt;
     })
 
@@ -32,7 +32,7 @@ returns c =
     let p = processor c.args.self.now c.args.memory.now in
     record {
       as_asked = λ ss.
-          decodes_to p c.get-at.result c.get-at.ensures _ c.load-word.result (omega arith) (omega arith) c.load-word.ensures (sym c.in_ok-instruction.ensures.ok_part ∙ c.decode.ensures.value) ss
+          decodes_to p c.get-at.result c.get-at.ensures.value _ c.load-word.result (omega arith) (omega arith) c.load-word.ensures (sym c.in_ok-instruction.ensures.ok_part ∙ c.decode.ensures.value) ss
           ∙ c.execute.ensures.as_asked ss;
       in_memory = c.execute.ensures.in_memory;
     }

@@ -1,6 +1,5 @@
-use Rattle.std.proofs.Common.{take, sym, refl, ap, ◌∙◌, subst, inr, arith, length-take}
-use Rattle.std.proofs.lemmas.List.{set-get_or}
-use Rattle.console.specs.Queues.{none_pulled, AllPulled}
+use Rattle.std.proofs.Common.{refl, arith}
+use Rattle.console.specs.Queues.{none_pulled}
 use Rattle.station.proofs.Bytes.{pulled_more, rest_more}
 use Rattle.station.proofs.unit.Station.collect.Goals as goal
 

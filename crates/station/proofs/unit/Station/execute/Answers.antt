@@ -1,5 +1,5 @@
-use Rattle.std.proofs.Common.{refl, ap, ◌∙◌, arith}
-use Rattle.station.specs.Worlds.{started_with, has_ended}
+use Rattle.std.proofs.Common.{refl, ◌∙◌, arith}
+use Rattle.station.specs.Worlds.{has_ended}
 use Rattle.station.proofs.Running.{of_length}
 use Rattle.station.proofs.unit.Station.execute.Goals as goal
 

@@ -1,6 +1,6 @@
-use Rattle.std.proofs.Common.{refl, ap, ◌∙◌, inl, inr, arith}
+use Rattle.std.proofs.Common.{arith}
 use Rattle.console.specs.Queues.{none_offered}
-use Rattle.station.proofs.Bytes.{offered_more, stopped}
+use Rattle.station.proofs.Bytes.{offered_more}
 use Rattle.station.proofs.unit.Station.feed.Goals as goal
 
 pub loop-went-init : goal.loop-went-init
