@@ -55,7 +55,11 @@ impl HandIn<'_> {
         sitting: &mut Sitting,
         text: &[u8],
     ) -> io::Result<Option<u32>> {
-        println!(rt; "answer.txt: bytes {}, lines {}", text.len(), count_newlines(text))?;
+        println!(rt;
+            "answer.txt: bytes {}, lines {}",
+            text.len(),
+            count_newlines(text)
+        )?;
         let mut words = [0u8; WORDS];
         match assemble(text, &mut words) {
             Ok(count) => {

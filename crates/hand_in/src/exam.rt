@@ -63,7 +63,10 @@ impl HandIn<'_> {
         if words.len() <= bytes.len() {
             bytes.as_mut_slice()[..words.len()].copy_from_slice(words);
         }
-        println!(rt; "disk: sectors {}, the words from its start on", bytes.len() / 512)?;
+        println!(rt;
+            "disk: sectors {}, the words from its start on",
+            bytes.len() / 512
+        )?;
         Ok(bytes)
     }
 

@@ -15,4 +15,3 @@ loop-k-preserved g c =
       rest_more c.args.replies.now c.loop-k.replies c.loop-k.k c.answer.result v.1,
       omega (arith, within),
     )
-

@@ -14,4 +14,3 @@ loop-number-preserved c =
     below_more _ _
     (λ k h. part_before out four (4 * k) (4 * k + 4) at (at + 4 - at) (omega arith) within ∙ c.loop-number.invariant k h)
     (between-put_mid at (at + 4 - at) out four (at + 4) within (ap length spelled ∙ omega arith) ∙ spelled ∙ ap (λ n. bytes (n ∷ [])) c.register.ensures.value)
-

@@ -12,4 +12,3 @@ loop-came-preserved g c =
       pulled_more _ _ _ _ c.loop-came.buffer c.loop-came.came c.in-Some.byte (omega arith) v.0 c.in-Some.ensures,
       rest_more c.loop-came.buffer c.args.buffer.now c.loop-came.came c.in-Some.byte v.1,
     )
-

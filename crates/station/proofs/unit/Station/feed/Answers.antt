@@ -8,4 +8,3 @@ loop-went-init g c = none_offered
 
 pub loop-went-preserved : goal.loop-went-preserved
 loop-went-preserved g c = offered_more _ _ _ c.args.bytes.now c.loop-went.went (omega arith) c.loop-went.invariant c.in-Ok.ensures
-
