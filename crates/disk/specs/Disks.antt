@@ -1,6 +1,8 @@
 -- What a disk means: its sectors, which of them are kept, and how many more it can keep.
 use Rattle.std.specs.Prelude.{◌≡◌, ℕ, zero, suc, ◌<◌, ◌≤◌, Bool, true, false, ◌≢◌, ◌⊎◌, List, [], length, Ok, Err, Result, slice_index_or, slice_set}
 use Rattle.disk.specs.declared.NoSuchSector.{NoSuchSector}
+use Rattle.disk.specs.declared.ReadRefusal.{ReadRefusal}
+use Rattle.disk.specs.declared.ReadRefusal.TheVariants as read_refusal
 use Rattle.disk.specs.declared.WriteRefusal.{WriteRefusal}
 use Rattle.disk.specs.declared.WriteRefusal.TheVariants as refusal
 
@@ -35,6 +37,12 @@ pub record Unkept (disk : Disk) (sector : ℕ) : Type 0 where
 abbrev pub Reads : List (List ℕ) → ℕ → List ℕ → Result (Unit {0}) NoSuchSector → List ℕ → Type 0
 Reads sectors sector before (Ok _) after = (sector < length sectors) × (after ≡ slice_index_or sectors sector [])
 Reads sectors sector before (Err _) after = (length sectors ≤ sector) × (after ≡ before)
+
+-- The same where the block is a lent part of any length: only one of 512 bytes is read into.
+abbrev pub ReadsInto : List (List ℕ) → ℕ → List ℕ → Result (Unit {0}) ReadRefusal → List ℕ → Type 0
+ReadsInto sectors sector before (Ok _) after = (sector < length sectors) × (length before ≡ 512) × (after ≡ slice_index_or sectors sector [])
+ReadsInto sectors sector before (Err read_refusal.NoSuchSector) after = (length sectors ≤ sector) × (after ≡ before)
+ReadsInto sectors sector before (Err read_refusal.NotOneSector) after = (sector < length sectors) × (length before ≢ 512) × (after ≡ before)
 
 -- What a write answers, and the disk before and after it.
 abbrev pub Writes : Disk → ℕ → List ℕ → Result (Unit {0}) WriteRefusal → Disk → Type 0

@@ -1,5 +1,5 @@
 -- What functions over any disk promise, said by the meaning of disks alone.
-use Rattle.std.specs.Prelude.{◌≡◌, ℕ, suc, ◌+◌, ◌<◌, ◌≤◌, ◌≢◌, ◌⊎◌, List, [], ◌++◌, length, take, drop, Some, None, Ok, Err, Option, Result, slice_index_or}
+use Rattle.std.specs.Prelude.{◌≡◌, ℕ, suc, ◌+◌, ◌<◌, ◌≤◌, ◌⊎◌, List, [], ◌++◌, length, take, drop, Some, None, Ok, Err, Option, Result, slice_index_or}
 use Rattle.disk.specs.declared.NoSuchSector.{NoSuchSector}
 use Rattle.disk.specs.declared.WriteRefusal.{WriteRefusal}
 use Rattle.disk.specs.declared.WriteRefusal.TheVariants as refusal
@@ -15,11 +15,6 @@ Copies from sector before (Err refusal.NoKeep) after = Unkept before sector × (
 abbrev pub ReadsAt : List (List ℕ) → ℕ → ℕ → List ℕ → Result (Unit {0}) NoSuchSector → List ℕ → Type 0
 ReadsAt sectors sector at before (Ok _) after = (sector < length sectors) × (after ≡ take at before ++ (slice_index_or sectors sector [] ++ drop (at + 512) before))
 ReadsAt sectors sector at before (Err _) after = (length sectors ≤ sector) × (after ≡ before)
-
--- What a read into a part of any length answers, and the part before and after it.
-abbrev pub ReadsPart : List (List ℕ) → ℕ → List ℕ → Option (Unit {0}) → List ℕ → Type 0
-ReadsPart sectors sector before (Some _) after = (sector < length sectors) × (length before ≡ 512) × (after ≡ slice_index_or sectors sector [])
-ReadsPart sectors sector before None after = ((length sectors ≤ sector) ⊎ (length before ≢ 512)) × (after ≡ before)
 
 -- The number of the last sector, if there is one.
 abbrev pub Last : List (List ℕ) → Option ℕ → Type 0

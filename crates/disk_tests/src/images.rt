@@ -1,6 +1,6 @@
 // Tests of the images.
-use crate::{edges, last_sector, read_at, read_part};
-use disk::{Image, NoSuchSector, ReadOnlyImage, Readable, Writable, WriteRefusal};
+use crate::{edges, last_sector, read_at};
+use disk::{Image, NoSuchSector, ReadOnlyImage, ReadRefusal, Readable, Writable, WriteRefusal};
 use std::test::Fail;
 
 #[test]
@@ -50,6 +50,15 @@ fn a_part_of_memory_is_read_into(rt: HostRuntime) {
     let bytes = [9; 512];
     let disk = ReadOnlyImage::new(&bytes);
     let mut memory = [0; 1024];
+    assert!(rt; disk.read_into(0, &mut memory[256..768]).is_ok());
+    assert!(rt; memory[255] == 0 && memory[256] == 9 && memory[767] == 9 && memory[768] == 0);
+}
+
+#[test]
+fn a_part_of_memory_is_borrowed_as_a_block(rt: HostRuntime) {
+    let bytes = [9; 512];
+    let disk = ReadOnlyImage::new(&bytes);
+    let mut memory = [0; 1024];
     assert_eq!(rt; read_at(&disk, &mut memory, 256, 0), Ok(()));
     assert!(rt; memory[255] == 0 && memory[256] == 9 && memory[767] == 9 && memory[768] == 0);
 }
@@ -68,9 +77,15 @@ fn only_a_part_of_one_sector_is_read_into(rt: HostRuntime) {
     let bytes = [9; 512];
     let disk = ReadOnlyImage::new(&bytes);
     let mut less = [0; 511];
-    assert!(rt; read_part(&disk, &mut less, 0).is_none());
-    assert!(rt; read_part(&disk, &mut less, 1).is_none());
+    assert_eq!(rt;
+        disk.read_into(0, &mut less),
+        Err(ReadRefusal::NotOneSector)
+    );
+    assert_eq!(rt;
+        disk.read_into(1, &mut less),
+        Err(ReadRefusal::NoSuchSector)
+    );
     assert!(rt; less[0] == 0);
     let mut one = [0; 512];
-    assert!(rt; read_part(&disk, &mut one, 0).is_some() && one[511] == 9);
+    assert!(rt; disk.read_into(0, &mut one).is_ok() && one[511] == 9);
 }

@@ -3,7 +3,7 @@
 
 ghost use Rattle.std.specs.Prelude.{◌≡◌, ◌+◌, ◌≤◌, length, IfOk};
 ghost use Rattle.disk.specs.Disks.{disk};
-ghost use Rattle.disk_tests.specs.Using.{Copies, Last, ReadsAt, ReadsPart};
+ghost use Rattle.disk_tests.specs.Using.{Copies, Last, ReadsAt};
 
 use disk::{NoSuchSector, Readable, Writable, WriteRefusal};
 
@@ -39,14 +39,6 @@ pub(crate) fn read_at<D: Readable>(
         unreachable!()
     };
     disk.read(sector, block)
-}
-
-// Reads a sector into a part of any length: only a part of 512 bytes is read into.
-pub fn read_part<D: Readable>(disk: &D, part: &mut [u8], sector: u32) -> Option<()>
-    ensures { ReadsPart (D.Readable.sectors disk.now) sector part.old result part.new }
-{
-    let block = part.as_mut_array()?;
-    disk.read(sector, block).ok()
 }
 
 // A read after a write gives the written bytes, on any writable disk.
