@@ -4,7 +4,7 @@ ghost use Rattle.assembler.specs.Lines.{line_word};
 
 use crate::keyword::Keyword;
 use crate::operand::read_operand;
-use text::fault::FieldFault;
+use text::fault::{FieldFault, in_field};
 use text::fields::FieldReader;
 
 // The word that `line` spells, and where it spells none, its first wrong field.
@@ -12,7 +12,8 @@ pub(crate) fn read_line(line: &[u8]) -> Result<u32, FieldFault>
     ensures { result ≡ line_word line.now }
 {
     let mut fields = FieldReader::new(line);
-    let keyword = fields.read(1, Keyword::read)?;
+    let first = fields.field(1)?;
+    let keyword = in_field(Keyword::read(first), 1)?;
     let slots = keyword.slots();
     let mut word = keyword.base();
     for (k, slot) in slots.iter().enumerate() {

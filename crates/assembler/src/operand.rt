@@ -3,7 +3,7 @@ ghost use Rattle.std.specs.Prelude.{◌≡◌, ◌≤◌, IfOk};
 ghost use Rattle.u5.specs.Operations.{largest};
 ghost use Rattle.assembler.specs.Lines.{register_of, read_as, OperandRead};
 
-use text::fault::{Cause, FieldFault};
+use text::fault::{Cause, FieldFault, in_field};
 use text::fields::FieldReader;
 use text::number::read_number;
 use u5::operand::Register;
@@ -44,5 +44,6 @@ pub(crate) fn read_operand(
     ensures reads { OperandRead fields.old kind number result fields.new }
     ensures bound { IfOk result (λ n. n ≤ largest kind) }
 {
-    fields.read(number, |field| read_as(kind, field))
+    let field = fields.field(number)?;
+    in_field(read_as(kind, field), number)
 }

@@ -35,7 +35,8 @@ impl Call<'_> {
 
 // A field that is a number up to a limit.
 fn number(fields: &mut FieldReader, place: usize, limit: u32) -> Result<u32, FieldFault> {
-    fields.read(place, |field: &[u8]| read_number(field, limit))
+    let field = fields.field(place)?;
+    in_field(read_number(field, limit), place)
 }
 
 // A call that has a number behind its word.

@@ -4,7 +4,7 @@ ghost use Rattle.text.specs.Numerals.{number_up_to};
 ghost use Rattle.sheet.specs.Lines.{points_in, ending_in, letter_of, with_rest, next, last_points};
 
 use processor::ending::Ending;
-use text::fault::{Cause, FieldFault};
+use text::fault::{Cause, FieldFault, in_field};
 use text::fields::FieldReader;
 use text::number::read_number;
 
@@ -45,7 +45,8 @@ pub(crate) fn read_up_to(
     ensures reads { with_rest result fields.new ≡ next (number_up_to limit) number fields.old }
     ensures bound { IfOk result (λ n. n ≤ limit) }
 {
-    fields.read(number, |field: &[u8]| read_number(field, limit))
+    let field = fields.field(number)?;
+    in_field(read_number(field, limit), number)
 }
 
 // The points in the next field, which has to be the last.
@@ -53,7 +54,8 @@ pub(crate) fn read_points(fields: &mut FieldReader, number: usize) -> Result<u32
     requires { number ≤ 9 }
     ensures { result ≡ last_points number fields.old }
 {
-    let points = fields.read(number, points)?;
+    let field = fields.field(number)?;
+    let points = in_field(points(field), number)?;
     fields.end(number + 1)?;
     Ok(points)
 }

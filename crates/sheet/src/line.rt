@@ -4,7 +4,7 @@ ghost use Rattle.sheet.specs.Lines.{word_mark, byte_mark, stored_mark, ends_mark
 
 use crate::fields::{ending, letter, read_points, read_up_to};
 use crate::mark::Mark;
-use text::fault::{Cause, FieldFault};
+use text::fault::{Cause, FieldFault, in_field};
 use text::fields::FieldReader;
 use u5::operand::Register;
 
@@ -55,7 +55,8 @@ fn stored_mark(fields: &mut FieldReader) -> Result<Mark, FieldFault>
 fn ends_mark(fields: &mut FieldReader) -> Result<Mark, FieldFault>
     ensures { result ≡ ends_mark fields.old }
 {
-    let ending = fields.read(2, ending)?;
+    let field = fields.field(2)?;
+    let ending = in_field(ending(field), 2)?;
     let points = read_points(fields, 3)?;
     Ok(Mark::Ends { ending, points })
 }
@@ -81,6 +82,7 @@ pub(crate) fn read_line(line: &[u8]) -> Result<Mark, FieldFault>
     ensures { result ≡ line_mark line.now }
 {
     let mut fields = FieldReader::new(line);
-    let letter = fields.read(1, letter)?;
+    let first = fields.field(1)?;
+    let letter = in_field(letter(first), 1)?;
     by_letter(letter, &mut fields)
 }

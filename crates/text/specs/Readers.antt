@@ -1,20 +1,14 @@
 -- What readers of lines and fields hand out.
 use Rattle.std.specs.Prelude.{◌≡◌, ℕ, ◌<◌, List, [], ◌∷◌, length, Some, None, Ok, Err, Option, Result}
 use Rattle.std.specs.Borrow.{Bor}
-use Rattle.text.specs.declared.fault.Cause.{Cause}
 use Rattle.text.specs.declared.fault.Cause.TheVariants.{Missing, Extra, End}
 use Rattle.text.specs.declared.fault.FieldFault.{FieldFault}
-use Rattle.text.specs.Faults.{at_field, in_field}
+use Rattle.text.specs.Faults.{at_field}
 
 -- the next field is handed out; where there is none, it is missing
 abbrev pub Hands : List (List ℕ) → ℕ → Result (Bor (List ℕ)) FieldFault → List (List ℕ) → Type 0
 Hands before number (Ok field) after = before ≡ field.now ∷ after
 Hands before number (Err fault) after = (before ≡ []) × (after ≡ before) × (fault ≡ at_field number Missing)
-
--- the next field is handed to a reader, whose answer for it is the result, and a cause becomes a fault of that field; where there is none, it is missing
-abbrev pub Reads : {X : Type 0} → (List ℕ → Result X Cause → Type 0) → List (List ℕ) → ℕ → Result X FieldFault → List (List ℕ) → Type 0
-Reads {X} answers [] number result after = (result ≡ Err (at_field number Missing)) × (after ≡ [])
-Reads {X} answers (field ∷ fields) number result after = ((answer : Result X Cause) × answers field answer × (result ≡ in_field answer number)) × (after ≡ fields)
 
 -- no field is left; one that is would be too many
 abbrev pub Ends : List (List ℕ) → ℕ → Result (Unit {0}) FieldFault → Type 0

@@ -1,11 +1,10 @@
 // A line field by field.
 ghost use Rattle.std.specs.Prelude.{◌≡◌};
-ghost use Rattle.std.specs.Fn.{FnOnceReturnsAt};
 ghost use Rattle.std.specs.List.{AllByRecursion};
 ghost use Rattle.text.specs.Pieces.{pieces, joined, Lacks};
-ghost use Rattle.text.specs.Readers.{Hands, Reads, Ends};
+ghost use Rattle.text.specs.Readers.{Hands, Ends};
 
-use crate::fault::{Cause, FieldFault, in_field};
+use crate::fault::{Cause, FieldFault};
 use crate::find::find;
 use std::marker::Model;
 
@@ -51,19 +50,6 @@ impl<'a> FieldReader<'a> {
         let end = find(self.line, b'\t', start);
         self.at = end + 1;
         Ok(&self.line[start..end])
-    }
-
-    // What `read` makes of the next field, which is the one with this number.
-    pub fn read<T, F: FnOnce(&[u8]) -> Result<T, Cause> + Drop>(
-        &mut self,
-        number: usize,
-        read: F,
-    ) -> Result<T, FieldFault>
-        requires { F.IsAlwaysCallable read }
-        ensures { Reads (FnOnceReturnsAt F.FnOnce read) self.old number result self.new }
-    {
-        let field = self.field(number)?;
-        in_field(read(field), number)
     }
 
     // That no field is left; the one with this number would be the next.
