@@ -1,5 +1,6 @@
 -- A search through a table, turn by turn, and what it finds.
-use Rattle.std.proofs.Common.{◌≡◌, ℕ, zero, suc, ◌+◌, ◌<◌, ◌≤◌, Bool, true, false, ◌&&◌, List, [], ◌∷◌, length, get_or, Some, None, Option, sym, refl, ap, ◌∙◌, subst, ⊎_elim, arith, MatchOption}
+use Rattle.std.proofs.Common.{◌≡◌, ℕ, zero, suc, ◌+◌, ◌<◌, ◌≤◌, Bool, true, false, cond, ◌&&◌, List, [], ◌∷◌, length, get_or, drop, Some, None, Option, sym, refl, ap, ◌∙◌, subst, ⊎_elim, arith, MatchOption}
+use Rattle.std.proofs.lemmas.List.{at_drop_more, drop_all}
 use Rattle.std.proofs.lemmas.Bool.{cond-true, cond-false, cases_Bool, and_parts}
 use Rattle.std.proofs.lemmas.Bool.Decides.{not_from_Decides}
 use Rattle.std.proofs.lemmas.Slice.Eq.{bytes_eq-Decides}
@@ -45,6 +46,24 @@ none_passes test (x ∷ xs) d e (suc k) h = none_passes test xs d (sym (cond-fal
 -- what is found by a name goes by it
 pub called_is : {X : Type 0} (name : X → List ℕ) (field : List ℕ) (xs : List X) (x : X) → called name field xs ≡ Some x → field ≡ name x
 called_is name field xs x e = (bytes_eq-Decides field (name x)).0 (found_passes (λ y. bytes_eq field (name y)) xs x e)
+
+not_true : (b : Bool) → (b ≡ true → ⊥) → b ≡ false
+not_true true h = absurd (h refl)
+not_true false h = refl
+
+-- one turn of a search by a name
+module _ {X : Type 0} (name : X → List ℕ) (field : List ℕ) (xs : List X) (i : ℕ) (d : X) where
+  here : i < length xs → called name field (drop i xs) ≡ cond (bytes_eq field (name (get_or xs i d))) (Some (get_or xs i d)) (called name field (drop (i + 1) xs))
+  here h = at_drop_more (called name field) xs i d h
+
+  pub called_found : i < length xs → field ≡ name (get_or xs i d) → called name field (drop i xs) ≡ Some (get_or xs i d)
+  called_found h e = here h ∙ cond-true (bytes_eq field (name (get_or xs i d))) _ _ ((bytes_eq-Decides field (name (get_or xs i d))).1 e)
+
+  pub called_passed : i < length xs → (field ≡ name (get_or xs i d) → ⊥) → called name field (drop i xs) ≡ called name field (drop (i + 1) xs)
+  called_passed h e = here h ∙ cond-false (bytes_eq field (name (get_or xs i d))) _ _ (not_true _ (λ t. e ((bytes_eq-Decides field (name (get_or xs i d))).0 t)))
+
+  pub called_none : length xs ≤ i → called name field (drop i xs) ≡ None
+  called_none h = ap (called name field) (drop_all i xs h)
 
 -- operations
 

@@ -155,7 +155,12 @@ impl Operation {
         ensures reads { result ≡ named field.now }
         ensures cases { MatchOption result ((o : Operation) → field.now ≢ spelling o) (λ o. field.now ≡ spelling o) }
     {
-        OPERATIONS.iter().copied().find(|o| field == o.spelling())
+        for op in OPERATIONS {
+            if field == op.spelling() {
+                return Some(op);
+            }
+        }
+        None
     }
 
     // The operation with this opcode: a `match`, so that decoding is a jump and not a search.

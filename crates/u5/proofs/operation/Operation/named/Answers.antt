@@ -1,16 +1,29 @@
-use Rattle.std.proofs.Common.{rules, ◌≡◌, sym, ◌∙◌}
-use Rattle.std.specs.Str.{bytes_eq}
-use Rattle.std.proofs.lemmas.Iterator.Adapters.{option_map_id}
-use Rattle.std.proofs.lemmas.Iterator.{YieldsList-from_slice}
-use Rattle.std.proofs.lemmas.Iterator.Consumers.{YieldsList-from_copied}
-use Rattle.std.proofs.lemmas.Iterator.Search.{find_from_yields_List}
-use Rattle.u5.specs.Operations.{spelling, every, named}
-use Rattle.u5.proofs.Tables.{named_cases}
+use Rattle.std.proofs.Common.{sym, ◌∙◌}
+use Rattle.std.proofs.lemmas.Slice.Eq.{slice_eq-Decides}
+use Rattle.std.proofs.lemmas.Bool.Decides.{not_from_Decides, Decides-eqb}
+use Rattle.u5.specs.declared.operation.Operation.TheVariants.{LoadB}
+use Rattle.u5.specs.Operations.{spelling, every}
+use Rattle.u5.proofs.Tables.{called_found, called_passed, called_none, named_cases}
 use Rattle.u5.proofs.operation.Operation.named.Goals as goal
+
+pub returns-then-eq : goal.returns-then-eq
+unfolding every
+returns-then-eq c =
+    let field = c.args.field.now in
+    let same = slice_eq-Decides Decides-eqb field c.spelling.result.now c.eq.result c.eq.ensures in
+    let is = sym (called_found spelling field every c.loop-op.op-index LoadB c.loop-op-test.true (same.0 c.if-eq.true ∙ c.spelling.ensures)) ∙ c.loop-op.invariant in
+    record { reads = is; cases = named_cases field _ is }
+
+pub loop-op-preserved : goal.loop-op-preserved
+unfolding every
+loop-op-preserved c =
+    let field = c.args.field.now in
+    let same = slice_eq-Decides Decides-eqb field c.spelling.result.now c.eq.result c.eq.ensures in
+    sym (called_passed spelling field every c.loop-op.op-index LoadB c.loop-op-test.true (λ e. not_from_Decides c.eq.result same c.if-eq.false (e ∙ sym c.spelling.ensures))) ∙ c.loop-op.invariant
 
 pub returns : goal.returns
 unfolding every
 returns c =
     let field = c.args.field.now in
-    let is : c.find.result ≡ named field = sym (option_map_id _) ∙ find_from_yields_List (λ o. bytes_eq field (spelling o)) _ _ c.find.result c.find.ensures.ran (YieldsList-from_copied (YieldsList-from_slice every cc)) (λ x b q k. search rules) in
+    let is = sym (called_none spelling field every c.loop-op.op-index LoadB c.loop-op-test.false) ∙ c.loop-op.invariant in
     record { reads = is; cases = named_cases field _ is }
