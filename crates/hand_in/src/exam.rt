@@ -1,5 +1,5 @@
 // The words on a disk: started, run, collected and tallied.
-use crate::folder::HandIn;
+use crate::folder::{HandIn, say_unread};
 use crate::words::say_fault;
 use console::{Console, Script};
 use disk::{ReadOnlyImage, Readable, Writable};
@@ -48,7 +48,7 @@ impl HandIn<'_> {
             }
             Err(e) => {
                 if e.kind() != ErrorKind::NotFound {
-                    println!(rt; "disk.bin can't be read: {e}")?;
+                    say_unread(rt, "disk.bin", e)?;
                 }
                 Ok(Vec::new(rt.alloc()))
             }

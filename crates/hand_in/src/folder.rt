@@ -8,18 +8,22 @@ pub(crate) struct HandIn<'a> {
     pub(crate) script: &'a [u8],
 }
 
+pub(crate) fn say_unread(rt: &HostRuntime, name: &str, e: io::Error) -> io::Result<()> {
+    println!(rt; "{name} can't be read: {e}")
+}
+
 impl HandIn<'_> {
     pub(crate) fn path(&self, rt: &HostRuntime, name: &str) -> io::Result<String> {
         Ok(format!(in rt.alloc(); "{}/{name}", self.folder)?)
     }
 
-    // The bytes of a file; where it can't be read, a line says so.
+    // The bytes of a file; where it can't be read, a line says so. That line is printed elsewhere, so that a read has no room for it on the stack.
     pub(crate) fn read(&self, rt: &HostRuntime, name: &str) -> io::Result<Option<Vec<u8>>> {
         let path = self.path(rt, name)?;
         match fs::read(rt, path.as_str()) {
             Ok(bytes) => Ok(Some(bytes)),
             Err(e) => {
-                println!(rt; "{name} can't be read: {e}")?;
+                say_unread(rt, name, e)?;
                 Ok(None)
             }
         }

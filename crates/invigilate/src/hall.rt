@@ -6,8 +6,21 @@ use crate::say::{say_refused, say_unknown, say_untallied};
 use console::Console;
 use disk::Writable;
 use station::unit::Station;
-use std::io;
+use std::{fmt, io};
 use u5::operand::Register;
+
+// Bytes as hexadecimal digits, two each.
+#[derive(Drop)]
+struct Digits<'a>(&'a [u8]);
+
+impl fmt::Display for Digits<'_> {
+    fn fmt<W: fmt::Write>(&self, f: &mut fmt::Formatter<W>) -> fmt::Result {
+        for byte in self.0 {
+            write!(f, "{byte:02x}")?;
+        }
+        Ok(())
+    }
+}
 
 // A station with its memory, and the sitting of who uses it.
 pub(crate) struct Hall {
@@ -57,8 +70,11 @@ impl Hall {
         }
     }
 
-    // The bytes are hexadecimal, two digits each.
+    // The bytes are hexadecimal, two digits each; for what spells none no memory is asked.
     fn feed<C: Console>(&self, rt: &HostRuntime, console: &mut C, digits: &[u8]) -> io::Result<()> {
+        if digits.len() % 2 != 0 || !digits.iter().all(u8::is_ascii_hexdigit) {
+            return say_unknown(rt);
+        }
         let mut bytes = vec![in rt.alloc(); 0u8; digits.len() / 2]?;
         match hex::decode_to_slice(digits, bytes.as_mut_slice()) {
             Ok(()) => println!(rt; "{}", self.station.feed(console, bytes.as_slice())),
@@ -66,12 +82,12 @@ impl Hall {
         }
     }
 
-    // No more bytes come than are printed, so that a larger buffer would stay empty.
+    // No more bytes come than are printed, so that a larger buffer would stay empty. Only the bytes ask for memory: their digits go straight to the line.
     fn collect<C: Console>(&self, rt: &HostRuntime, console: &mut C, room: u32) -> io::Result<()> {
         let size = console.printed().min(room as usize);
         let mut buffer = vec![in rt.alloc(); 0u8; size]?;
         let came = self.station.collect(console, buffer.as_mut_slice());
-        println!(rt; "{came}\t{}", hex::encode(rt.alloc(), buffer.as_slice())?)
+        println!(rt; "{came}\t{}", Digits(buffer.as_slice()))
     }
 
     fn tally<D: Writable>(&self, rt: &HostRuntime, disk: &D, file: &[u8]) -> io::Result<()> {

@@ -23,6 +23,7 @@ fn say<E: Drop, F, N>(
     rt: &HostRuntime,
     sitting: &mut Sitting,
     name: &str,
+    count: u32,
     call: F,
     number: N,
 ) -> io::Result<()>
@@ -33,28 +34,28 @@ where
     requires number { N.IsAlwaysCallable number }
 {
     match call(sitting) {
-        Ok(()) => println!(rt; "{name}: {} left", sitting.left()),
-        Err(refusal) => println!(rt; "{name}: refused {}", number(refusal)),
+        Ok(()) => println!(rt; "{name} {count}: {} left", sitting.left()),
+        Err(refusal) => println!(rt; "{name} {count}: refused {}", number(refusal)),
     }
 }
 
 fn draw(rt: &HostRuntime, sitting: &mut Sitting, count: u32) -> io::Result<()> {
-    let name = format!(in rt.alloc(); "draw {count}")?;
     say(
         rt,
         sitting,
-        name.as_str(),
+        "draw",
+        count,
         |s: &mut Sitting| s.draw(count),
         DrawRefusal::number,
     )
 }
 
 fn give_back(rt: &HostRuntime, sitting: &mut Sitting, count: u32) -> io::Result<()> {
-    let name = format!(in rt.alloc(); "give back {count}")?;
     say(
         rt,
         sitting,
-        name.as_str(),
+        "give back",
+        count,
         |s: &mut Sitting| s.give_back(count),
         GiveBackRefusal::number,
     )

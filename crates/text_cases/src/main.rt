@@ -236,17 +236,24 @@ fn compare_large(
     compare(rt, label, got.as_str(), due)
 }
 
+// A line of digits of so many bytes with its newline: a push behind the last would take as much memory again.
+fn digits_line(heap: Global, size: usize) -> anyhow::Result<Vec<u8>> {
+    let mut line = b"7".repeat(heap, size)?;
+    if let Some(last) = line.as_mut_slice().last_mut() {
+        *last = b'\n';
+    }
+    Ok(line)
+}
+
 fn compare_limits(rt: &HostRuntime) -> anyhow::Result<()> {
     let heap = rt.alloc();
     let full = b"HALT\n".repeat(heap, 3328)?;
     compare_large(rt, "3328 lines", full.as_slice(), 13312, "13312 bytes")?;
     let over = b"HALT\n".repeat(heap, 3329)?;
     compare_large(rt, "3329 lines", over.as_slice(), 13316, "7")?;
-    let mut short = b"7".repeat(heap, 65535)?;
-    short.push(b'\n')?;
+    let short = digits_line(heap, 65536)?;
     compare_large(rt, "65536 bytes", short.as_slice(), 4, "8 1 1 SPELLING")?;
-    let mut long = b"7".repeat(heap, 65536)?;
-    long.push(b'\n')?;
+    let long = digits_line(heap, 65537)?;
     compare_large(rt, "65537 bytes", long.as_slice(), 4, "7")?;
     compare_large(
         rt,
