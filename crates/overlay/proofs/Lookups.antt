@@ -6,7 +6,7 @@ use Rattle.std.proofs.lemmas.List.{get_or-map}
 use Rattle.std.proofs.lemmas.Bool.Decides.{nat_tests}
 use Rattle.overlay.specs.declared.entry.Entry.{Entry}
 use Rattle.overlay.specs.declared.kept.Full.{Full}
-use Rattle.overlay.specs.Entries.{keys, holds, looked_up, upsert, rewritten, IsForOther, Finds, Has, Lacks, Keeps}
+use Rattle.overlay.specs.Entries.{keys, holds, looked_up, upsert, rewritten, IsForOther, Finds, Has, Lacks, Keeps, StandsOnlyAt}
 
 absent_later : (s : ℕ) (e : Entry) (es : List Entry) (n : ℕ) → AllWithin (IsForOther s) (e ∷ es) 0 (suc n) → AllWithin (IsForOther s) es 0 n
 absent_later s e es n absent k d le lt = absent (suc k) d (omega arith) (omega arith)
@@ -29,8 +29,17 @@ not_found f (e ∷ es) s d absent =
     cond-false (eqb e.sector s) _ _ (absent_first s e es (length es) absent)
     ∙ not_found f es s d (absent_later s e es (length es) absent)
 
-pub has_found : (es : List Entry) (s i : ℕ) (b : Entry) → Finds es s (Some i) → Has es s (get_or es i b).bytes
-has_found es s i b (less, same, absent) =
+-- No place before the only one has the sector.
+absent_before : (es : List Entry) (s i : ℕ) → i < length es → StandsOnlyAt es s i → AllWithin (IsForOther s) es 0 i
+absent_before es s i less only k d from before same =
+    let within : k < length es = omega arith in
+    let here : k ≡ i = only k within (get_or-map (λ (e : Entry). e.sector) es k d 0 within ∙ same) in
+    absurd (omega arith)
+
+-- What stands at the only place of a sector is what a look-up gives.
+pub has_found : (es : List Entry) (s i : ℕ) (b : Entry) → Finds es s (Some i) → StandsOnlyAt es s i → Has es s (get_or es i b).bytes
+has_found es s i b (less, same, _) only =
+    let absent : AllWithin (IsForOther s) es 0 i = absent_before es s i less only in
     (found_at (λ _. true) es i s false b less (same b) absent, λ d. sym (found_at (λ e. e.bytes) es i s d b less (same b) absent))
 
 pub lacks_absent : (es : List Entry) (s : ℕ) → Finds es s None → Lacks es s

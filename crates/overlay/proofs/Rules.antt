@@ -1,12 +1,27 @@
--- The rules of a table through a change of its entries.
-use Rattle.std.proofs.Common.{◌≡◌, ℕ, ◌<◌, ◌≤◌, ◌≢◌, List, [], ◌∷◌, ◌++◌, length, get_or, sym, ap, ◌∙◌, subst, ⊎_elim, length-append, arith}
+-- The rules of a table: what they say of a place that is found, and that they hold through a change of its entries.
+use Rattle.std.proofs.Common.{◌≡◌, ℕ, ◌<◌, ◌≤◌, ◌≢◌, List, [], ◌∷◌, ◌++◌, length, get_or, Some, None, Option, sym, ap, ◌∙◌, subst, ⊎_elim, length-append, arith}
+use Rattle.std.specs.Option.{IfSome}
 use Rattle.std.specs.List.{All, AllWithin}
 use Rattle.std.proofs.Math.Seq.{get_or-append_seam}
 use Rattle.std.proofs.lemmas.List.{length-map, map-set, map-append, get_or-map, set-get_or, get_or_append_left}
 use Rattle.std.proofs.lemmas.List.Elements.{All-set, All-push}
-use Rattle.std.proofs.lemmas.Bool.{cases_lt}
+use Rattle.std.proofs.lemmas.Bool.{cases_lt, cases_order}
 use Rattle.overlay.specs.declared.entry.Entry.{Entry}
-use Rattle.overlay.specs.Entries.{keys, rewritten, Apart, IsSized, IsForOther}
+use Rattle.overlay.specs.Entries.{keys, rewritten, Apart, IsSized, IsForOther, Finds, StandsOnlyAt}
+
+-- No sector stands twice, so the place that is found is the only one.
+pub found_only : (es : List Entry) (s : ℕ) (r : Option ℕ) → Apart (keys es) → Finds es s r → IfSome r (λ i. StandsOnlyAt es s i)
+found_only es s None apart absent = tt
+found_only es s (Some i) apart (less, same, _) = λ k within at.
+    let e : Entry = record { sector = s; bytes = [] } in
+    let n : length (keys es) ≡ length es = length-map es (λ (e : Entry). e.sector) in
+    let is : get_or (keys es) k 0 ≡ get_or (keys es) i 0 = at ∙ sym (get_or-map (λ (e : Entry). e.sector) es i e 0 less ∙ same e) in
+    ⊎_elim
+    (λ (here : k ≡ i). here)
+    (⊎_elim
+    (λ (before : k < i). absurd (apart k i before (omega (arith, n)) is))
+    (λ (behind : i < k). absurd (apart i k behind (omega (arith, n)) (sym is))))
+    (cases_order k i)
 
 module _ (es new : List Entry) (i : ℕ) (block : List ℕ) (is : new ≡ rewritten es i block) where
   pub rewritten_apart : Apart (keys es) → Apart (keys new)

@@ -25,6 +25,10 @@ abbrev pub Finds : List Entry → ℕ → Option ℕ → Type 0
 Finds es s None = AllWithin (IsForOther s) es 0 (length es)
 Finds es s (Some i) = (i < length es) × HoldsAt (λ e. e.sector ≡ s) es i × AllWithin (IsForOther s) es 0 i
 
+-- The sector s stands at no place but i.
+abbrev pub StandsOnlyAt : List Entry → ℕ → ℕ → Type 0
+StandsOnlyAt es s i = (k : ℕ) → k < length es → slice_index (keys es) k ≡ s → k ≡ i
+
 -- The entry at i has new bytes, for the same sector.
 abbrev pub rewritten : List Entry → ℕ → List ℕ → List Entry
 rewritten es i block = slice_set es i (record { sector = slice_index (keys es) i; bytes = block })

@@ -1,7 +1,7 @@
 // The table of the sectors that an overlay keeps.
-ghost use Rattle.std.specs.Prelude.{◌≡◌, ◌<◌, [], length, MatchOption};
+ghost use Rattle.std.specs.Prelude.{◌≡◌, ◌<◌, [], length, IfSome, MatchOption};
 ghost use Rattle.std.specs.List.{All};
-ghost use Rattle.overlay.specs.Entries.{keys, rewritten, Apart, IsSized, Finds, Has, Lacks, Keeps};
+ghost use Rattle.overlay.specs.Entries.{keys, rewritten, Apart, IsSized, Finds, Has, Lacks, Keeps, StandsOnlyAt};
 
 use crate::entry::Entry;
 use arrayvec::ArrayVec;
@@ -31,9 +31,11 @@ impl Table {
         }
     }
 
-    // Where the sector's entry stands.
+    // Where the sector's entry stands. There is no other.
+    #[tactic(auto, using(crate::proofs::Rules::found_only))]
     fn find(&self, sector: u32) -> Option<usize>
-        ensures { Finds self.now.entries.items sector result }
+        ensures cases { Finds self.now.entries.items sector result }
+        ensures only { IfSome result (λ i. StandsOnlyAt self.now.entries.items sector i) }
     {
         self.entries
             .as_slice()
