@@ -23,7 +23,8 @@ fn say_refused(rt: &HostRuntime, refusal: AssembleRefusal) -> io::Result<()> {
     }
 }
 
-// Lists the words, assembles the listing, and says whether the words are the same.
+// Lists the words, assembles the listing, and says whether the words are the same. It is not inlined, so that its buffers are off the stack before the program runs.
+#[inline(never)]
 fn read_back(rt: &HostRuntime, words: &[u8]) -> io::Result<()> {
     let mut listing = [0u8; LISTING];
     let size = match list(words, &mut listing) {

@@ -17,7 +17,7 @@ impl HandIn<'_> {
         Ok(format!(in rt.alloc(); "{}/{name}", self.folder)?)
     }
 
-    // The bytes of a file; where it can't be read, a line says so. That line is printed elsewhere, so that a read has no room for it on the stack.
+    // The bytes of a file; where it can't be read, a line says so. That line is printed elsewhere, so that a read keeps no room for it on the stack.
     pub(crate) fn read(&self, rt: &HostRuntime, name: &str) -> io::Result<Option<Vec<u8>>> {
         let path = self.path(rt, name)?;
         match fs::read(rt, path.as_str()) {
