@@ -29,6 +29,11 @@ not_found f (e ∷ es) s d absent =
     cond-false (eqb e.sector s) _ _ (absent_first s e es (length es) absent)
     ∙ not_found f es s d (absent_later s e es (length es) absent)
 
+-- What stands at the first place of a sector is what a look-up gives.
+pub has_found : (es : List Entry) (s i : ℕ) (b : Entry) → Finds es s (Some i) → Has es s (get_or es i b).bytes
+has_found es s i b (less, same, absent) =
+    (found_at (λ _. true) es i s false b less (same b) absent, λ d. sym (found_at (λ e. e.bytes) es i s d b less (same b) absent))
+
 -- No place before the only one has the sector.
 absent_before : (es : List Entry) (s i : ℕ) → i < length es → StandsOnlyAt es s i → AllWithin (IsForOther s) es 0 i
 absent_before es s i less only k d from before same =
@@ -36,11 +41,9 @@ absent_before es s i less only k d from before same =
     let here : k ≡ i = only k within (get_or-map (λ (e : Entry). e.sector) es k d 0 within ∙ same) in
     absurd (omega arith)
 
--- What stands at the only place of a sector is what a look-up gives.
-pub has_found : (es : List Entry) (s i : ℕ) (b : Entry) → Finds es s (Some i) → StandsOnlyAt es s i → Has es s (get_or es i b).bytes
-has_found es s i b (less, same, _) only =
-    let absent : AllWithin (IsForOther s) es 0 i = absent_before es s i less only in
-    (found_at (λ _. true) es i s false b less (same b) absent, λ d. sym (found_at (λ e. e.bytes) es i s d b less (same b) absent))
+-- What stands at the only place of a sector is what a look-up gives; that the place is the first is not used.
+pub has_at_only_place : (es : List Entry) (s i : ℕ) (b : Entry) → Finds es s (Some i) → StandsOnlyAt es s i → Has es s (get_or es i b).bytes
+has_at_only_place es s i b (less, same, _) only = has_found es s i b (less, same, absent_before es s i less only)
 
 pub lacks_absent : (es : List Entry) (s : ℕ) → Finds es s None → Lacks es s
 lacks_absent es s absent = (not_found (λ _. true) es s false absent, λ d. sym (not_found (λ e. e.bytes) es s d absent))
